@@ -1,0 +1,10 @@
+pub mod Causes
+pub mod Bytes
+pub mod Sinks
+pub mod Files
+pub mod Stores
+pub mod Logs
+pub mod MemoryStates
+pub mod Memory
+pub mod Tapes
+pub mod Units
