@@ -1,0 +1,2 @@
+pub mod LegalLayouts
+pub mod PackingLemmas

@@ -1,0 +1,8 @@
+-- A legal width that isn't one of the other two.
+use Rattle.std.proofs.Common.{arith, sym, inl, inr}
+use Rattle.layout_params.specs.Views.{sizes_of}
+use Rattle.layout_params.proofs.LegalLayouts.{value_limit_of}
+use Rattle.layout_params.proofs.numbers.Numbers.value_limit.Goals as goal
+
+pub returns-in_default : goal.returns-in_default
+returns-in_default c = elim (value_limit_of (sizes_of c.args.self.now.sizes) c.args.self.now.legal) [ inl p ↦ grind (arith, c.in_default) | inr (inl p) ↦ grind (arith, c.in_default) | inr (inr p) ↦ sym p.1 ]

@@ -1,0 +1,6 @@
+pub mod Sizes
+pub mod Views
+pub mod Packing
+pub mod Parameters
+pub mod ParamsView
+pub mod Laws
