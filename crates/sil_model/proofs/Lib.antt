@@ -1,0 +1,4 @@
+pub mod Fits
+pub mod Keeps
+pub mod Runs
+pub mod Steady

@@ -1,0 +1,35 @@
+-- The instructions that a statement may take.
+use Rattle.std.specs.Prelude.{ℕ, ◌+◌, ◌*◌, List, [], ◌∷◌, length}
+use Rattle.layout_params.specs.Parameters.{Settings}
+use Rattle.sil_model.specs.declared.macros.Macro.{Macro}
+use Rattle.sil_model.specs.declared.macros.Macro.TheVariants.{Endex, Incra, Movd}
+use Rattle.sil_model.specs.declared.program.Arg.{Arg}
+use Rattle.sil_model.specs.declared.program.Arg.TheVariants.{Places, Gotos}
+use Rattle.sil_model.specs.declared.program.Statement.{Statement}
+use Rattle.sil_model.specs.States.{State}
+
+-- the operands, each item of a list by itself
+abbrev pub item_count : Arg → ℕ
+item_count (Places ats) = length ats
+item_count (Gotos locations) = length locations
+item_count _ = 1
+
+abbrev pub operand_count : List Arg → ℕ
+operand_count [] = 0
+operand_count (arg ∷ args) = item_count arg + operand_count args
+
+-- the visits that a clause makes to cells, characters, table entries and links
+abbrev pub visits : Macro → State → ℕ
+visits Endex s = 1
+visits Incra s = 2
+visits Movd s = 2
+
+unfoldable pub weight : Statement → State → ℕ
+weight statement s = operand_count statement.args + visits statement.name s
+
+unfoldable pub cost : Statement → State → ℕ
+cost statement s = 2000 + 400 * weight statement s
+
+-- no valid state makes a statement weigh more, by the number of all cells
+abbrev pub weight_limit : Settings → ℕ → ℕ
+weight_limit settings cells = 4096 + 4 * cells * settings.sizes.descr

@@ -1,0 +1,15 @@
+pub mod Macros
+pub mod Integers
+pub mod Memory
+pub mod Access
+pub mod Arguments
+pub mod Clauses
+pub mod States
+pub mod Runs
+pub mod Start
+pub mod Machine
+pub mod Costs
+pub mod WellFormed
+pub mod Valid
+pub mod Prints
+pub mod RunLaws

@@ -1,0 +1,24 @@
+-- Laws of whole runs.
+use Rattle.std.specs.Prelude.{◌≡◌, ℕ, ◌+◌, ◌≤◌, length}
+use Rattle.sil_model.specs.declared.end.End.{End}
+use Rattle.sil_model.specs.declared.program.Program.{Program}
+use Rattle.sil_model.specs.Machine.{after, after_step, ended, run}
+use Rattle.sil_model.specs.Runs.{Run}
+use Rattle.sil_model.specs.States.{State}
+
+-- both end alike, with the same tapes
+pub record SameOutcome (one other : Run End) : Type 0 where
+  pub end : one.end ≡ other.end
+  pub tapes : one.tapes ≡ other.tapes
+
+-- the run that goes on after m steps
+abbrev pub run_after : Program → ℕ → ℕ → State → Run End
+run_after program m n s = after_step (after program m s) ended (run program n)
+
+-- a run of m + n steps ends as one of n steps after the first m, and a run meets no more statements than it has steps
+pub record AreRuns (program : Program) : Type 0 where
+  pub outcome : (m n : ℕ) (s : State) → SameOutcome (run program (m + n) s) (run_after program m n s)
+  pub met : (n : ℕ) (s : State) → length (run program n s).met ≤ n
+
+abbrev pub LawOfRuns : Type 0
+LawOfRuns = (program : Program) → AreRuns program
