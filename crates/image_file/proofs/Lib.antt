@@ -1,0 +1,4 @@
+pub mod ByteNumbers
+pub mod PartRules
+pub mod Parts
+pub mod Spelled

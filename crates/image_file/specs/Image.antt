@@ -1,0 +1,80 @@
+-- Images: what a program is installed as.
+use Rattle.std.specs.Prelude.{◌≡◌, ℕ, zero, suc, ◌+◌, ◌*◌, ◌/◌, ◌%◌, ◌^◌, ◌<◌, ◌≤◌, List, [], ◌∷◌, length, map, take, drop, All, Bool, true, ◌&&◌, ◌==◌, nat_lt, nat_le, if◌then◌else◌, IsTrue, slice_index}
+use Rattle.sil_base.specs.Bytes.{number, piece}
+use Rattle.layout_params.specs.Parameters.{Settings, AreLegalSettings}
+use Rattle.sil_model.specs.declared.macros.Macro.{Macro}
+use Rattle.sil_model.specs.Start.{all_cells}
+
+-- where a statement's code begins, the number of its card, and its macro
+pub record StatementEntry : Type 0 where
+  pub place : ℕ
+  pub card : ℕ
+  pub name : Macro
+
+-- the settings, the statements, the code words, the constants, the bytes and the kinds (0 a descriptor, 1 characters) of the static cells, and the tables in 4,096 bytes each
+pub record Image : Type 0 where
+  pub settings : Settings
+  pub statements : List StatementEntry
+  pub words : List ℕ
+  pub constants : List ℕ
+  pub cells : List ℕ
+  pub kinds : List ℕ
+  pub tables : List ℕ
+
+-- an entry given as a place, a card and a macro
+abbrev pub entry_of : ℕ × ℕ × Macro → StatementEntry
+entry_of e = record { place = e.0; card = e.1; name = e.2 }
+
+-- the image of these parts
+abbrev pub image_of : Settings → List (ℕ × ℕ × Macro) → List ℕ → List ℕ → List ℕ → List ℕ → List ℕ → Image
+image_of settings statements words constants cells kinds tables = record {
+  settings = settings;
+  statements = map entry_of statements;
+  words = words;
+  constants = constants;
+  cells = cells;
+  kinds = kinds;
+  tables = tables;
+}
+
+-- the number of tables
+abbrev pub table_count : Image → ℕ
+table_count i = length i.tables / 4096
+
+-- the place of the first word
+abbrev pub first_place : ℕ
+first_place = 0x1_0000
+
+-- places from here on are multiples of 4 that rise strictly, below an end
+abbrev pub places_rise : ℕ → ℕ → List StatementEntry → Bool
+places_rise least end [] = true
+places_rise least end (e ∷ es) = nat_le least e.place && (e.place % 4 == 0) && nat_lt e.place end && places_rise (e.place + 1) end es
+
+-- the sixteen bytes of a table entry: the action from 0 to 4, whether there is a PUT, the next table for GOTO and else 0, four zeros, and the PUT, 0 where there is none
+abbrev pub entry_fits : ℕ → List ℕ → Bool
+entry_fits tables entry =
+    let action = slice_index entry 0 in
+    let next = number (piece 2 2 entry) in
+    nat_le action 4 && nat_le (slice_index entry 1) 1 && (if action == 1 then nat_lt next tables else next == 0) && (number (piece 4 4 entry) == 0) && (if slice_index entry 1 == 0 then number (piece 8 8 entry) == 0 else true)
+
+-- n entries, one after another
+abbrev pub entries_fit : ℕ → ℕ → List ℕ → Bool
+entries_fit tables zero bytes = true
+entries_fit tables (suc n) bytes = entry_fits tables (take 16 bytes) && entries_fit tables n (drop 16 bytes)
+
+-- what an image keeps to
+pub record IsImage (i : Image) : Type 0 where
+  pub settings : AreLegalSettings i.settings
+  pub statements : length i.statements ≤ 16384
+  pub cards : All (λ e. e.card < 2 ^ 32) i.statements
+  pub few_words : length i.words ≤ 201310208
+  pub some_words : 1 ≤ length i.words
+  pub wide_words : All (λ w. w < 2 ^ 32) i.words
+  pub constants : length i.constants ≤ 67108864
+  pub cell_count : all_cells i.settings (length i.kinds) ≤ 1048576
+  pub table_bytes : length i.tables ≤ 256 * 4096
+  pub whole_tables : length i.tables % 4096 ≡ 0
+  pub places : IsTrue (places_rise first_place (first_place + 4 * length i.words) i.statements)
+  pub cells : length i.cells ≡ length i.kinds * i.settings.sizes.descr
+  pub kinds : All (λ k. k ≤ 1) i.kinds
+  pub tables : IsTrue (entries_fit (table_count i) (length i.tables / 16) i.tables)

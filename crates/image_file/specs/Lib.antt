@@ -1,0 +1,5 @@
+pub mod Image
+pub mod Spelling
+pub mod Parts
+pub mod SettingsView
+pub mod Reading

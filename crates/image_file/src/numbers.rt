@@ -1,0 +1,74 @@
+// Numbers in bytes, the lowest first.
+ghost use Rattle.std.specs.Prelude.{◌≡◌, ◌++◌, IfOk, length};
+ghost use Rattle.sil_base.specs.Bytes.{number, low_bytes};
+ghost use Rattle.image_file.specs.Spelling.{numbers_in};
+
+use byteorder::{ByteOrder, LittleEndian};
+use std::alloc::AllocError;
+
+/// The number in two bytes.
+pub(crate) fn number_16(bytes: &[u8]) -> u16
+    requires { length bytes.now ≡ 2 }
+    ensures { result ≡ number bytes.now }
+{
+    LittleEndian::read_u16(bytes)
+}
+
+/// The number in four bytes.
+pub(crate) fn number_32(bytes: &[u8]) -> u32
+    requires { length bytes.now ≡ 4 }
+    ensures { result ≡ number bytes.now }
+{
+    LittleEndian::read_u32(bytes)
+}
+
+/// The number in eight bytes.
+pub(crate) fn number_64(bytes: &[u8]) -> u64
+    requires { length bytes.now ≡ 8 }
+    ensures { result ≡ number bytes.now }
+{
+    LittleEndian::read_u64(bytes)
+}
+
+/// Appends the two bytes of a number.
+pub(crate) fn put_16(out: &mut Vec<u8>, n: u16) -> Result<(), AllocError>
+    ensures { IfOk result (λ _. out.new.items ≡ out.old.items ++ low_bytes 2 n) }
+{
+    out.extend_from_slice(&n.to_le_bytes())
+}
+
+/// Appends the four bytes of a number.
+pub(crate) fn put_32(out: &mut Vec<u8>, n: u32) -> Result<(), AllocError>
+    ensures { IfOk result (λ _. out.new.items ≡ out.old.items ++ low_bytes 4 n) }
+{
+    out.extend_from_slice(&n.to_le_bytes())
+}
+
+/// Appends the eight bytes of a number.
+pub(crate) fn put_64(out: &mut Vec<u8>, n: u64) -> Result<(), AllocError>
+    ensures { IfOk result (λ _. out.new.items ≡ out.old.items ++ low_bytes 8 n) }
+{
+    out.extend_from_slice(&n.to_le_bytes())
+}
+
+/// Appends numbers of four bytes each.
+#[tactic(auto, unfolding(crate::specs::Spelling::numbers_in))]
+pub(crate) fn put_all_32(out: &mut Vec<u8>, numbers: &[u32]) -> Result<(), AllocError>
+    ensures { IfOk result (λ _. out.new.items ≡ out.old.items ++ numbers_in 4 numbers.now) }
+{
+    for number in numbers {
+        put_32(out, *number)?;
+    }
+    Ok(())
+}
+
+/// Appends numbers of eight bytes each.
+#[tactic(auto, unfolding(crate::specs::Spelling::numbers_in))]
+pub(crate) fn put_all_64(out: &mut Vec<u8>, numbers: &[u64]) -> Result<(), AllocError>
+    ensures { IfOk result (λ _. out.new.items ≡ out.old.items ++ numbers_in 8 numbers.now) }
+{
+    for number in numbers {
+        put_64(out, *number)?;
+    }
+    Ok(())
+}
