@@ -1,0 +1,116 @@
+// Loads and stores.
+
+ghost use Rattle.std.specs.Prelude.{◌≡◌, ◌==◌, ◌%◌, ◌+◌, ◌<◌, ◌≤◌, ◌^◌, ◌⊎◌, length};
+ghost use Rattle.sil_base.specs.Bytes.{with_piece, low_bytes};
+ghost use Rattle.rv_emulate.specs.Memory.{load_from, loaded, store_into, stored};
+ghost use Rattle.rv_emulate.specs.View.{Puts, memory_of};
+
+use crate::bytes::number_of;
+use crate::memory::Regions;
+
+const CELLS: u64 = 0x4000_0000;
+
+const KINDS: u64 = 0x5000_0000;
+
+const TABLES: u64 = 0x6000_0000;
+
+const CONSTANTS: u64 = 0x6800_0000;
+
+const SCRATCH: u64 = 0x6C00_0000;
+
+fn is_aligned(width: usize, address: u64) -> bool
+    requires { (width ≡ 1) ⊎ (width ≡ 2) ⊎ (width ≡ 4) ⊎ (width ≡ 8) }
+    ensures { result ≡ (address % width == 0) }
+{
+    address % width as u64 == 0
+}
+
+/// The number in `width` bytes at an address, where the region holds them.
+fn number_in(first: u64, bytes: &[u8], width: usize, address: u64) -> Option<u64>
+    requires width { (width ≡ 1) ⊎ (width ≡ 2) ⊎ (width ≡ 4) ⊎ (width ≡ 8) }
+    requires room { first + length bytes.now < 2 ^ 63 }
+    ensures { result ≡ load_from first bytes.now width address }
+{
+    if address < first {
+        return None;
+    }
+    let at = (address - first) as usize;
+    if at > bytes.len() || bytes.len() - at < width {
+        return None;
+    }
+    Some(number_of(&bytes[at..at + width]))
+}
+
+/// Puts the `width` lowest bytes of a number at this index.
+fn put(bytes: &mut [u8], at: usize, width: usize, value: u64)
+    requires width { (width ≡ 1) ⊎ (width ≡ 2) ⊎ (width ≡ 4) ⊎ (width ≡ 8) }
+    requires room { at + width ≤ length bytes.old }
+    ensures { bytes.new ≡ with_piece at (low_bytes width value) bytes.old }
+{
+    let low = value.to_le_bytes();
+    bytes[at..at + width].copy_from_slice(&low[..width]);
+}
+
+/// Puts the `width` lowest bytes of a number at an address, where the region holds them.
+fn put_in(first: u64, bytes: &mut [u8], width: usize, address: u64, value: u64) -> bool
+    requires width { (width ≡ 1) ⊎ (width ≡ 2) ⊎ (width ≡ 4) ⊎ (width ≡ 8) }
+    requires room { first + length bytes.old < 2 ^ 63 }
+    ensures { Puts result (store_into first bytes.old width address value) bytes.old bytes.new }
+{
+    if address < first {
+        return false;
+    }
+    let at = (address - first) as usize;
+    if at > bytes.len() || bytes.len() - at < width {
+        return false;
+    }
+    put(bytes, at, width, value);
+    true
+}
+
+/// The number in `width` bytes at an address; none where it is misaligned, or no region holds it.
+#[tactic(auto, unfolding(crate::specs::Memory::loaded))]
+pub(crate) fn load(constants: &[u8], regions: &Regions, width: usize, address: u64) -> Option<u64>
+    requires width { (width ≡ 1) ⊎ (width ≡ 2) ⊎ (width ≡ 4) ⊎ (width ≡ 8) }
+    requires few { length constants.now < 2 ^ 28 }
+    ensures { result ≡ loaded constants.now (memory_of regions.now) width address }
+{
+    if !is_aligned(width, address) {
+        return None;
+    }
+    if let Some(n) = number_in(CELLS, &regions.cells, width, address) {
+        return Some(n);
+    }
+    if let Some(n) = number_in(KINDS, &regions.kinds, width, address) {
+        return Some(n);
+    }
+    if let Some(n) = number_in(TABLES, &regions.tables, width, address) {
+        return Some(n);
+    }
+    if let Some(n) = number_in(CONSTANTS, constants, width, address) {
+        return Some(n);
+    }
+    number_in(SCRATCH, &regions.scratch, width, address)
+}
+
+/// Stores the `width` lowest bytes of a number at an address, where it is aligned and a region that
+/// can be stored to holds it.
+#[tactic(auto, unfolding(crate::specs::Memory::stored))]
+pub(crate) fn store(regions: &mut Regions, width: usize, address: u64, value: u64) -> bool
+    requires { (width ≡ 1) ⊎ (width ≡ 2) ⊎ (width ≡ 4) ⊎ (width ≡ 8) }
+    ensures { Puts result (stored (memory_of regions.old) width address value) (memory_of regions.old) (memory_of regions.new) }
+{
+    if !is_aligned(width, address) {
+        return false;
+    }
+    if put_in(CELLS, &mut regions.cells, width, address, value) {
+        return true;
+    }
+    if put_in(KINDS, &mut regions.kinds, width, address, value) {
+        return true;
+    }
+    if put_in(TABLES, &mut regions.tables, width, address, value) {
+        return true;
+    }
+    put_in(SCRATCH, &mut regions.scratch, width, address, value)
+}

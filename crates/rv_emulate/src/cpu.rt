@@ -1,0 +1,95 @@
+// The emulator as its callers see it.
+
+ghost use Rattle.std.specs.Prelude.{◌≡◌, ◌==◌, ◌<◌, ◌^◌, Some, IfSome, length};
+ghost use Rattle.std.specs.List.{position_from};
+ghost use Rattle.sil_base.specs.Tapes.{Tapes};
+ghost use Rattle.sil_base.specs.Units.{tapes_of};
+ghost use Rattle.image_file.specs.Image.{Image};
+ghost use Rattle.rv_emulate.specs.Steps.{step};
+ghost use Rattle.rv_emulate.specs.Runs.{run, on_state, end_of, met_now};
+ghost use Rattle.rv_emulate.specs.Cpus.{IsOf, SameImage, IfEnded, stands, state, answer_of};
+
+use crate::code::Code;
+use crate::end::{CpuEnd, CpuStep};
+use crate::hart::Hart;
+use sil_base::UnitSet;
+use std::marker::Model;
+
+/// A run of an image, which is made step by step.
+#[derive(Drop)]
+pub struct Cpu {
+    pub(crate) code: Code,
+    pub(crate) hart: Hart,
+    pub(crate) ended: Option<CpuEnd>,
+}
+
+impl Model for Cpu {
+    ghost use Rattle.rv_emulate.specs.Cpus.{CpuState};
+    ghost use Rattle.rv_emulate.specs.View.{view_of};
+
+    ghost Value = { CpuState };
+
+    ghost view = { λ c. view_of c.code c.hart c.ended };
+}
+
+impl Cpu {
+    /// Makes one step. After an end it answers that end again.
+    pub fn step<U: UnitSet>(&mut self, units: &mut U) -> CpuStep
+        ensures stands { (image : Image) → IsOf image self.old → stands self.new (tapes_of (U.seen units.new)) ≡ on_state (stands self.old (tapes_of (U.seen units.old))) (step image) }
+        ensures answer { result ≡ answer_of self.new.ended }
+        ensures ended { IfEnded result (λ e. self.new ≡ record self.old { ended = Some e }) }
+        ensures image { SameImage self.old self.new }
+        ensures units { U.seen units.new ≡ U.seen units.old }
+    {
+        if let Some(end) = self.ended {
+            return CpuStep::Ended(end);
+        }
+        let step = self.hart.step(&self.code);
+        if let CpuStep::Ended(end) = step {
+            self.ended = Some(end);
+        }
+        step
+    }
+
+    /// Makes at most `budget` steps, and answers how the run ends: `Runaway` where it hasn't, and then
+    /// it may be run further. After an end it answers that end again.
+    pub fn run<U: UnitSet>(&mut self, units: &mut U, budget: u128) -> CpuEnd
+        ensures stands { (image : Image) → IsOf image self.old → stands self.new (tapes_of (U.seen units.new)) ≡ on_state (stands self.old (tapes_of (U.seen units.old))) (run image budget) }
+        ensures end { (image : Image) → IsOf image self.old → end_of (on_state (stands self.old (tapes_of (U.seen units.old))) (run image budget)) ≡ Some result }
+        ensures image { SameImage self.old self.new }
+        ensures units { U.seen units.new ≡ U.seen units.old }
+    {
+        if let Some(end) = self.ended {
+            return end;
+        }
+        self.ended = self.hart.run(&self.code, budget);
+        self.ended.unwrap_or(CpuEnd::Runaway)
+    }
+
+    /// The statement that is met now: the one whose code begins here, where steps are left.
+    pub fn met(&self) -> Option<u32>
+        ensures { (image : Image) (tapes : Tapes) → IsOf image self.now → result ≡ met_now image (state self.now tapes) }
+    {
+        if self.hart.registers[27] == 0 {
+            return None;
+        }
+        statement_at(&self.code.places, self.hart.pc)
+    }
+}
+
+/// The number of the statement whose code begins at this place.
+fn statement_at(places: &[u64], pc: u64) -> Option<u32>
+    requires { length places.now < 2 ^ 28 }
+    ensures { result ≡ position_from (λ place. pc == place) 0 places.now }
+{
+    let k = index_of(places, pc)?;
+    Some(k as u32)
+}
+
+/// Where this place stands first.
+fn index_of(places: &[u64], pc: u64) -> Option<usize>
+    ensures same { result ≡ position_from (λ place. pc == place) 0 places.now }
+    ensures within { IfSome result (λ k. k < length places.now) }
+{
+    places.iter().position(|place| pc == *place)
+}
