@@ -1,0 +1,4 @@
+pub mod Represents
+pub mod Ways
+pub mod Code
+pub mod Emits
