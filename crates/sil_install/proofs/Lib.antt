@@ -1,0 +1,4 @@
+mod Counts
+mod Alike
+mod Entries
+mod Whole

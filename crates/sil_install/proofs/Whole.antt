@@ -1,0 +1,142 @@
+-- The image of a program keeps to every limit, is one of the program, and behaves as it.
+use Rattle.std.proofs.Common.{◌≡◌, ℕ, zero, suc, ◌*◌, ◌/◌, ◌%◌, ◌^◌, ◌<◌, ◌≤◌, true, List, [], ◌∷◌, length, map, get_or, All, refl, sym, ap, subst, ◌∙◌, arith}
+use Rattle.std.proofs.lemmas.List.{length-map}
+use Rattle.std.proofs.lemmas.List.Concat.{length-flat_map}
+use Rattle.std.specs.List.{flat_map}
+use Rattle.std.specs.Prelude.{sum_by, Result, Ok, Err, IfOk}
+use Rattle.std.specs.Global.{Vec}
+use Rattle.layout_params.specs.declared.cell.Cell.{Cell}
+use Rattle.layout_params.specs.declared.cell.Cell.TheVariants.{Descr, Chars}
+use Rattle.layout_params.specs.Sizes.{packed_16, flag_limit, value_limit}
+use Rattle.layout_params.specs.Packing.{packing, FitsFields}
+use Rattle.layout_params.specs.Parameters.{Settings}
+use Rattle.sil_model.specs.declared.macros.Macro.{Macro}
+use Rattle.sil_model.specs.declared.program.Program.{Program}
+use Rattle.sil_model.specs.Memory.{FitsCell}
+use Rattle.sil_model.specs.Start.{limits_of, all_cells}
+use Rattle.sil_model.proofs.Steady.{steady}
+use Rattle.image_file.specs.Image.{Image, IsImage, image_of, entry_of, entries_fit}
+use Rattle.image_file.specs.Parts.{IsImageOf, kind_of, table_part}
+use Rattle.rv_emit.specs.Code.{last_place}
+use Rattle.rv_emit.specs.Emits.{CanEmit, Carries, FitsImage}
+use Rattle.rv_emit.proofs.FirstMemory.{length-packed, fits_all_static}
+use Rattle.image_file.specs.Spelling.{spelling}
+use Rattle.sil_install.specs.Installed.{Behaves, IsInstalled}
+use Rattle.sil_install.proofs.Alike.{law}
+
+-- ---- entries
+
+places_of : (es : List (ℕ × ℕ × Macro)) → map (λ e. e.place) (map entry_of es) ≡ map (λ e. e.0) es
+places_of [] = refl
+places_of (e ∷ es) = ap (λ xs. e.0 ∷ xs) (places_of es)
+
+cards_of : (es : List (ℕ × ℕ × Macro)) → map (λ e. e.card) (map entry_of es) ≡ map (λ e. e.1) es
+cards_of [] = refl
+cards_of (e ∷ es) = ap (λ xs. e.1 ∷ xs) (cards_of es)
+
+names_of : (es : List (ℕ × ℕ × Macro)) → map (λ e. e.name) (map entry_of es) ≡ map (λ e. e.2) es
+names_of [] = refl
+names_of (e ∷ es) = ap (λ xs. e.2 ∷ xs) (names_of es)
+
+cards_fit : (es : List (ℕ × ℕ × Macro)) → All (λ e. e.1 < 2 ^ 32) es → All (λ e. e.card < 2 ^ 32) (map entry_of es)
+cards_fit [] h = λ k d lt. absurd (omega arith)
+cards_fit (e ∷ es) h = first (h 0 e (omega arith)) (cards_fit es (λ k d lt. h (suc k) d (omega arith)))
+  where
+    first : e.1 < 2 ^ 32 → All (λ x. x.card < 2 ^ 32) (map entry_of es) → All (λ x. x.card < 2 ^ 32) (entry_of e ∷ map entry_of es)
+    first one rest zero d lt = one
+    first one rest (suc k) d lt = rest k d (omega arith)
+
+kinds_fit : (cells : List Cell) → All (λ k. k ≤ 1) (map kind_of cells)
+kinds_fit [] = λ k d lt. absurd (omega arith)
+kinds_fit (cell ∷ cells) = first cell (kinds_fit cells)
+  where
+    first : (cell : Cell) → All (λ k. k ≤ 1) (map kind_of cells) → All (λ k. k ≤ 1) (kind_of cell ∷ map kind_of cells)
+    first (Descr d) rest zero e lt = omega arith
+    first (Chars chars) rest zero e lt = omega arith
+    first (Descr d) rest (suc k) e lt = rest k e (omega arith)
+    first (Chars chars) rest (suc k) e lt = rest k e (omega arith)
+
+length-texts : (texts : List (List ℕ)) → length (flat_map (λ text. text) texts) ≡ sum_by length texts
+length-texts texts = length-flat_map (λ text. text) texts
+
+-- ---- fields
+
+field_fits : (settings : Settings) (cell : Cell) → settings.sizes ≡ packed_16 → FitsCell (limits_of settings) cell → FitsFields settings.sizes cell
+field_fits settings (Descr d) standard h =
+    let f : d.f ≤ flag_limit packed_16 = subst (λ s. d.f ≤ flag_limit s) standard h.1 in
+    let v : d.v ≤ value_limit packed_16 = subst (λ s. d.v ≤ value_limit s) standard h.2 in
+    subst (λ s. FitsFields s (Descr d)) (sym standard) (omega arith, omega arith)
+field_fits settings (Chars chars) standard h = tt
+
+pub fields_fit : (program : Program) (settings : Settings) → CanEmit program settings → All (FitsFields settings.sizes) program.cells
+fields_fit program settings can k d lt =
+    field_fits settings (get_or program.cells k d) can.standard (can.well_formed.cells k d lt)
+
+-- ---- the whole
+
+-- parts that were gathered for an image of a program
+pub record Gathered (program : Program) (settings : Settings) (entries : List (ℕ × ℕ × Macro)) (words places constants cells kinds tables : List ℕ) : Type 0 where
+  pub at : map (λ e. e.0) entries ≡ places
+  pub cards : map (λ e. e.1) entries ≡ map (λ s. s.card) program.statements
+  pub names : map (λ e. e.2) entries ≡ map (λ s. s.name) program.statements
+  pub range : All (λ e. e.1 < 2 ^ 32) entries
+  pub fits : FitsImage words places
+  pub texts : constants ≡ flat_map (λ text. text) program.formats
+  pub bytes : cells ≡ flat_map (packing settings.sizes) program.cells
+  pub marks : kinds ≡ map kind_of program.cells
+  pub none : tables ≡ []
+
+module _ (program : Program) (settings : Settings) (can : CanEmit program settings) (entries : List (ℕ × ℕ × Macro)) (words places constants cells kinds tables : List ℕ) (g : Gathered program settings entries words places constants cells kinds tables) where
+  abbrev pub image : Image
+  image = image_of settings entries words constants cells kinds tables
+
+  count : length entries ≡ length program.statements
+  count = sym (length-map entries (λ e. e.1)) ∙ ap length g.cards ∙ length-map program.statements (λ s. s.card)
+
+  marked : length kinds ≡ length program.cells
+  marked = ap length g.marks ∙ length-map program.cells kind_of
+
+  packed : length cells ≡ length program.cells * settings.sizes.descr
+  packed =
+      ap length g.bytes ∙ ap (λ z. length (flat_map (packing z) program.cells)) can.standard ∙ length-packed settings can.standard program.cells (fits_all_static settings can.standard program.cells can.well_formed.cells) ∙ ap (λ z. length program.cells * z.descr) (sym can.standard)
+
+  no_entries : entries_fit (length tables / 4096) (length tables / 16) tables ≡ true
+  no_entries = rw g.none refl
+
+  pub is_image : IsImage image
+  is_image = record {
+    settings = can.well_formed.legal;
+    statements = omega (arith, length-map entries entry_of, count, can.well_formed.statements);
+    cards = cards_fit entries g.range;
+    few_words = g.fits.few;
+    some_words = g.fits.some;
+    wide_words = g.fits.wide;
+    constants = omega (arith, ap length g.texts, length-texts program.formats, can.well_formed.format_bytes);
+    cell_count = subst (λ k. all_cells settings k ≤ 1048576) (sym marked) can.well_formed.cell_count;
+    table_bytes = omega (arith, ap length g.none);
+    whole_tables = ap (λ t. length t % 4096) g.none;
+    places = g.fits.rise (map entry_of entries) (places_of entries ∙ g.at);
+    cells = packed ∙ ap (λ k. k * settings.sizes.descr) (sym marked);
+    kinds = subst (All (λ k. k ≤ 1)) (sym g.marks) (kinds_fit program.cells);
+    tables = no_entries;
+  }
+
+  pub is_of : IsImageOf image program settings
+  is_of = record {
+    same_settings = refl;
+    cards = cards_of entries ∙ g.cards;
+    names = names_of entries ∙ g.names;
+    constants = g.texts;
+    cells = g.bytes;
+    kinds = g.marks;
+    tables = g.none ∙ ap (flat_map table_part) (sym can.no_tables);
+  }
+
+  pub behaves : Carries program settings words places (last_place program settings) → Behaves image program settings
+  behaves carries =
+      law image program settings (last_place program settings) (steady program settings can.well_formed) is_of (carries image is_of refl (places_of entries ∙ g.at))
+
+-- the bytes of such an image are installed
+pub installed : {E : Type 0} (program : Program) (settings : Settings) (image : Image) (r : Result (Vec ℕ) E) → IsImage image → IsImageOf image program settings → Behaves image program settings → IfOk r (λ b. b.items ≡ spelling image) → IfOk r (λ b. IsInstalled b.items program settings)
+installed program settings i (Ok b) is of does e = record { image = i; is_image = is; spelled = e; parts = of; behaves = does }
+installed program settings i (Err x) is of does e = tt

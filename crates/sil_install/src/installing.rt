@@ -1,0 +1,53 @@
+// From a program to the bytes of its image.
+ghost use Rattle.std.specs.Prelude.{◌≡◌, IfOk};
+ghost use Rattle.image_file.specs.Image.{IsImage};
+ghost use Rattle.image_file.specs.Parts.{IsImageOf};
+ghost use Rattle.rv_emit.specs.Emits.{CanEmit};
+ghost use Rattle.sil_install.specs.Installed.{Behaves, IsInstalled};
+
+use crate::parts::{entries, kinds, pack_cells};
+use image_file::{Image, write_image};
+use layout_params::Params;
+use rv_emit::{Emitted, emit};
+use sil_model::Program;
+use std::alloc::{AllocError, Global};
+
+/// The image of a program, which behaves as the program.
+fn image_of(alloc: Global, program: &Program, params: &Params) -> Result<Image, AllocError>
+    requires { CanEmit program.now params.now.settings }
+    ensures is_image { IfOk result IsImage }
+    ensures of { IfOk result (λ i. IsImageOf i program.now params.now.settings) }
+    ensures behaves { IfOk result (λ i. Behaves i program.now params.now.settings) }
+{
+    let cells = program.cells.items();
+    let emitted = emit(alloc, program, params)?;
+    let entries = entries(alloc, program.statements.items(), emitted.places.items())?;
+    let bytes = pack_cells(alloc, params.numbers(), cells)?;
+    let kinds = kinds(alloc, cells)?;
+    let Emitted {
+        words,
+        places: _,
+        constants,
+    } = emitted;
+    match Image::new(
+        params,
+        entries,
+        words.into_items(),
+        constants.into_items(),
+        bytes,
+        kinds,
+        Vec::new(alloc),
+    ) {
+        Some(image) => Ok(image),
+        None => unreachable!(),
+    }
+}
+
+/// The bytes of an image that is installed for a program. The only error is want of memory.
+pub fn install(alloc: Global, program: &Program, params: &Params) -> Result<Vec<u8>, AllocError>
+    requires { CanEmit program.now params.now.settings }
+    ensures { IfOk result (λ bytes. IsInstalled bytes.items program.now params.now.settings) }
+{
+    let image = image_of(alloc, program, params)?;
+    write_image(alloc, &image)
+}

@@ -1,0 +1,9 @@
+// From programs to the bytes of installed images.
+#![tactic(auto)]
+
+mod installing;
+mod law;
+mod parts;
+
+pub use installing::install;
+pub use law::law_of_installed_images;
