@@ -1,0 +1,46 @@
+use Rattle.std.proofs.Common.{rules}
+use Rattle.sil_cli.proofs.Statuses.{status-words, status-refused, status-store, status-missing, status-too-long, status-not-built, status-stops, status-notes, status-never}
+use Rattle.sil_cli.proofs.Whole.{headline}
+use Rattle.sil_cli.proofs.main_call.sil_main.Goals as goal
+
+pub returns-clause-answers : goal.returns-clause-answers
+returns-clause-answers g c = record {
+  ending = c.perform-ending.result;
+  between = g.U.UnitSet.seen c.perform-ending.new.units;
+  failed = c.finish-failed.result;
+  put = c.note_finishes-put.result;
+  performs = c.perform-ending.ensures;
+  finishes = c.finish-failed.ensures;
+  noted = c.note_finishes-put.ensures _ _ _ c.note_ending-line.ensures;
+  status = search rules;
+}
+
+pub returns-clause-words : goal.returns-clause-words
+returns-clause-words g c = status-words (returns-clause-answers g c)
+
+pub returns-clause-refused : goal.returns-clause-refused
+returns-clause-refused g c = status-refused (returns-clause-answers g c)
+
+pub returns-clause-store_fault : goal.returns-clause-store_fault
+returns-clause-store_fault g c = status-store (returns-clause-answers g c)
+
+pub returns-clause-missing : goal.returns-clause-missing
+returns-clause-missing g c = status-missing (returns-clause-answers g c)
+
+pub returns-clause-too_long : goal.returns-clause-too_long
+returns-clause-too_long g c = status-too-long (returns-clause-answers g c)
+
+pub returns-clause-not_built : goal.returns-clause-not_built
+returns-clause-not_built g c = status-not-built (returns-clause-answers g c)
+
+pub returns-clause-stops : goal.returns-clause-stops
+returns-clause-stops g c = status-stops (returns-clause-answers g c)
+
+pub returns-clause-notes_fault : goal.returns-clause-notes_fault
+returns-clause-notes_fault g c = status-notes (returns-clause-answers g c)
+
+pub returns-clause-never : goal.returns-clause-never
+returns-clause-never g c = status-never (returns-clause-answers g c)
+
+pub returns-clause-headline : goal.returns-clause-headline
+returns-clause-headline g c = headline (returns-clause-answers g c)

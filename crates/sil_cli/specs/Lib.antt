@@ -1,0 +1,11 @@
+pub mod Endings
+pub mod Noted
+pub mod Files
+pub mod Words
+pub mod Orders
+pub mod Inputs
+pub mod Held
+pub mod Runs
+pub mod Report
+pub mod Answer
+pub mod Headline

@@ -1,0 +1,79 @@
+// The command that installs a source and runs the image.
+ghost use Rattle.std.specs.Prelude.{◌≡◌, ◌≤◌, Some, Err, false, IfSome, IfOk, IfErr, OnErr, MatchResult, IsOkAnd};
+ghost use Rattle.std.specs.FinMap.{insert};
+ghost use Rattle.layout_params.specs.Parameters.{standard};
+ghost use Rattle.sil_base.specs.Units.{tapes_of};
+ghost use Rattle.sil_model.specs.declared.program.Program.{Program};
+ghost use Rattle.sil_install.specs.Installed.{IsInstalled};
+ghost use Rattle.sil_cli.specs.Endings.{is_free, is_free_end, ending_of};
+ghost use Rattle.sil_cli.specs.Files.{StopCause};
+ghost use Rattle.sil_cli.specs.Inputs.{program_at};
+ghost use Rattle.sil_cli.specs.Orders.{order_by};
+ghost use Rattle.sil_cli.specs.Report.{Comes, Keeps, Causes};
+
+use crate::build::build;
+use crate::ending::Stop;
+use crate::files::save;
+use crate::inputs::load_inputs;
+use crate::order::Order;
+use crate::running::run_image;
+use rv_emulate::CpuEnd;
+use sil_base::{Store, UnitSet};
+use std::alloc::Global;
+
+/// The bytes of an image of the program that an order's files give.
+fn prepare<S: Store>(alloc: Global, order: &Order<'_>, store: &mut S) -> Result<Vec<u8>, Stop>
+    ensures told { IfSome (S.files store.old) (λ files. MatchResult result
+        (λ image. IsOkAnd (program_at (order_by order.now) files)
+        (λ program. IsInstalled image.items program standard.settings))
+        (λ e. is_free e ≡ false → program_at (order_by order.now) files ≡ Err e)) }
+    ensures installed { IfOk result (λ image. (program : Program)
+        × IsInstalled image.items program standard.settings) }
+    ensures kept { S.files store.new ≡ S.files store.old }
+    ensures count { S.faults store.old ≤ S.faults store.new }
+    ensures cause { IfErr result (λ e. StopCause e (S.faults store.old) (S.faults store.new)) }
+{
+    let inputs = load_inputs(alloc, order, store)?;
+    Ok(build(alloc, &inputs)?)
+}
+
+/// Installs the program that an order's files give, and saves its image.
+fn install<S: Store>(alloc: Global, order: &Order<'_>, store: &mut S) -> Result<Vec<u8>, Stop>
+    ensures told { IfSome (S.files store.old) (λ files. MatchResult result
+        (λ image. IsOkAnd (program_at (order_by order.now) files)
+        (λ program. IsInstalled image.items program standard.settings)
+        × (S.files store.new ≡ Some (insert files (order_by order.now).image image.items)))
+        (λ e. is_free e ≡ false → (program_at (order_by order.now) files ≡ Err e)
+        × (S.files store.new ≡ Some files))) }
+    ensures installed { IfOk result (λ image. (program : Program)
+        × IsInstalled image.items program standard.settings) }
+    ensures leaves { IfSome (S.files store.old)
+        (λ files. Keeps (order_by order.now) files (S.files store.new)) }
+    ensures count { S.faults store.old ≤ S.faults store.new }
+    ensures cause { IfErr result (λ e. StopCause e (S.faults store.old) (S.faults store.new)) }
+{
+    let image = prepare(alloc, order, store)?;
+    save(alloc, store, order.image, &image)?;
+    Ok(image)
+}
+
+/// `go SRC TABLES PARAMS IMAGE N`.
+pub fn go<S: Store, U: UnitSet>(
+    alloc: Global,
+    order: &Order<'_>,
+    store: &mut S,
+    units: &mut U,
+) -> Result<CpuEnd, Stop>
+    ensures told { IfSome (S.files store.old) (λ files. is_free_end (ending_of result) ≡ false →
+        Comes (Some (order_by order.now)) files (tapes_of (U.seen units.old)) (ending_of result)
+        (S.files store.new) (tapes_of (U.seen units.new))) }
+    ensures leaves { IfSome (S.files store.old)
+        (λ files. Keeps (order_by order.now) files (S.files store.new)) }
+    ensures stops { IfSome (S.files store.old) (λ files. IfErr result
+        (λ e. is_free e ≡ false → program_at (order_by order.now) files ≡ Err e)) }
+    ensures still { OnErr result (U.seen units.new ≡ U.seen units.old) }
+    ensures causes { Causes (ending_of result) (S.faults store.old) (S.faults store.new) }
+{
+    let image = install(alloc, order, store)?;
+    run_image(alloc, &image, order.steps, units)
+}

@@ -1,0 +1,46 @@
+// Runs of an image's bytes.
+ghost use Rattle.std.specs.Prelude.{◌≡◌, ◌≤◌, ◌^◌, IfOk, IfErr, OnErr};
+ghost use Rattle.image_file.specs.Image.{Image, IsImage};
+ghost use Rattle.image_file.specs.Spelling.{spelling};
+ghost use Rattle.sil_base.specs.Units.{tapes_of};
+ghost use Rattle.sil_cli.specs.Runs.{RunsSo, RunsBytes};
+
+use crate::ending::Stop;
+use image_file::{Image, load_image};
+use rv_emulate::{Cpu, CpuEnd, budget};
+use sil_base::UnitSet;
+use std::alloc::{AllocError, Global};
+
+/// Runs an image for at most n statements.
+fn run<U: UnitSet>(
+    alloc: Global,
+    image: &Image,
+    n: u64,
+    units: &mut U,
+) -> Result<CpuEnd, AllocError>
+    requires { n ≤ 2 ^ 40 }
+    ensures ran { IfOk result (λ end. RunsSo image.now n end
+        (tapes_of (U.seen units.old)) (tapes_of (U.seen units.new))) }
+    ensures still { OnErr result (U.seen units.new ≡ U.seen units.old) }
+{
+    let mut cpu = Cpu::new(alloc, image, n)?;
+    Ok(cpu.run(units, budget(image, n)))
+}
+
+/// Runs the bytes of an image for at most n statements. Bytes that are none are refused.
+pub fn run_image<U: UnitSet>(
+    alloc: Global,
+    bytes: &[u8],
+    n: u64,
+    units: &mut U,
+) -> Result<CpuEnd, Stop>
+    requires { n ≤ 2 ^ 40 }
+    ensures ran { IfOk result (λ end. RunsBytes bytes.now n end
+        (tapes_of (U.seen units.old)) (tapes_of (U.seen units.new))) }
+    ensures accepts { (image : Image) → IsImage image → bytes.now ≡ spelling image
+        → IfErr result (λ e. e ≡ Stop.Memory) }
+    ensures still { OnErr result (U.seen units.new ≡ U.seen units.old) }
+{
+    let image = load_image(alloc, bytes)?;
+    Ok(run(alloc, &image, n, units)?)
+}
