@@ -1,0 +1,32 @@
+// The program: real files, streams and arguments round the top call.
+#![tactic(auto)]
+
+mod adapters;
+
+use adapters::{FileStore, WriterSink};
+use sil_base::Units;
+use sil_cli::sil_main;
+use std::process::ExitCode;
+use std::{env, io};
+
+/// Runs the program's words over the real world. The error is want of memory.
+fn run(rt: &HostRuntime) -> io::Result<u8> {
+    let alloc = rt.alloc();
+    let mut words = Vec::new(alloc);
+    for word in env::args(rt)?.skip(1) {
+        words.push(word)?;
+    }
+    let mut store = FileStore::new(rt);
+    let mut notes = WriterSink::new(rt.stderr());
+    let mut units = Units::new();
+    let status = sil_main(alloc, &words, &mut store, &mut units, &mut notes);
+    let _ = units.close_all();
+    Ok(status.code)
+}
+
+fn main(rt: HostRuntime) -> ExitCode {
+    match run(&rt) {
+        Ok(code) => ExitCode::from(code),
+        Err(_) => ExitCode::from(12),
+    }
+}
