@@ -1,0 +1,9 @@
+pub mod Cuts
+pub mod Each
+pub mod Digits
+pub mod Lists
+pub mod Quotes
+pub mod SpelledBytes
+pub mod Sound
+pub mod Complete
+pub mod Exact
