@@ -1,0 +1,7 @@
+pub mod Booleans
+pub mod TextLemmas
+pub mod CardLemmas
+pub mod ReadLemmas
+pub mod AsciiLemmas
+pub mod LoadLemmas
+pub mod LineLaws

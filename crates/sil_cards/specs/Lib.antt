@@ -1,0 +1,9 @@
+pub mod Lines
+pub mod Fields
+pub mod Held
+pub mod Verdicts
+pub mod CardParts
+pub mod Cards
+pub mod Reads
+pub mod Readings
+pub mod Steps
