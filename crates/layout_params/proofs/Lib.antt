@@ -1,2 +1,7 @@
 pub mod LegalLayouts
 pub mod PackingLemmas
+pub mod LineLemmas
+pub mod EntryLemmas
+pub mod FaultLemmas
+pub mod LegalLemmas
+pub mod SymbolLemmas

@@ -2,8 +2,9 @@
 use Rattle.std.proofs.Common.{◌≡◌, ℕ, zero, suc, ◌+◌, ◌*◌, ◌^◌, ◌<◌, ◌≤◌, ◌⊎◌, inl, inr, List, length, replicate, refl, sym, ap, subst, ◌∙◌, arith}
 use Rattle.std.specs.Prelude.{ℤ, IsTrue, FitsSigned}
 use Rattle.std.specs.Int.{w64, cast_unsigned, cast_signed}
-use Rattle.std.proofs.Math.Facts.{Fits-of_z, Fits-lt-pow}
-use Rattle.std.proofs.lemmas.Int.{to_z-of_z}
+use Rattle.std.proofs.Math.Facts.{Fits-of_z, Fits-lt-pow, Fits-of_lt, sfits_to_z}
+use Rattle.std.proofs.Math.Nat.{pow-le-pow_right}
+use Rattle.std.proofs.lemmas.Int.{to_z-of_z, of_z-to_z}
 use Rattle.std.proofs.lemmas.Nat.{pow-add}
 use Rattle.std.proofs.lemmas.Bool.{cases_lt}
 use Rattle.std.proofs.lemmas.List.{length-replicate, length-take-le, get_or-replicate, get_or_past}
@@ -13,7 +14,7 @@ use Rattle.layout_params.specs.declared.cell.Descr.{Descr as Descriptor}
 use Rattle.layout_params.specs.declared.cell.Cell.{Cell}
 use Rattle.layout_params.specs.declared.cell.Cell.TheVariants.{Descr, Chars}
 use Rattle.layout_params.specs.Sizes.{Sizes, is_legal}
-use Rattle.layout_params.specs.Packing.{PacksDescr, IsPacked, with_fields, packing, FitsFields}
+use Rattle.layout_params.specs.Packing.{PacksDescr, IsPacked, with_fields, packing, FitsFields, fields_of}
 use Rattle.layout_params.specs.Laws.{FitsInteger, AreCharacters}
 use Rattle.layout_params.proofs.LegalLayouts.{IsLegal, legal}
 
@@ -174,3 +175,28 @@ packing_below s (Descr d) given =
     let f_below = AreBytes-with_piece s.f_at (low_bytes s.f_len d.f) with_a (low_bytes_below s.f_len d.f) a_below in
     AreBytes-with_piece s.v_at (low_bytes s.v_len d.v) with_f (low_bytes_below s.v_len d.v) f_below
 packing_below s (Chars chars) given = AreBytes-piece 0 s.descr chars given.1
+
+-- ---- fields that are read
+
+-- n bytes at most make a number below 256 ^ n
+pub pow_at_most : (k n : ℕ) → k ≤ n → 256 ^ k ≤ 256 ^ n
+pow_at_most k n h =
+    let positive : 0 < 256 = omega arith in
+    pow-le-pow_right positive h
+
+-- A is written by its bits
+pub a_bits-written : (s : Sizes) (d : Descriptor) (bytes : List ℕ) (value : ℕ) → IsTrue (is_legal s) → value < 2 ^ 64 → PacksDescr s d bytes → PacksDescr s (record { a = cast_signed w64 value; f = d.f; v = d.v }) (with_piece s.a_at (low_bytes 8 value) bytes)
+a_bits-written s d bytes value h small old =
+    let written = a-written s d bytes (cast_signed w64 value) h (sfits_to_z (Fits-of_lt small)) old in
+    subst (λ (n : ℕ). PacksDescr s (of_fields (cast_signed w64 value) d.f d.v) (with_piece s.a_at (low_bytes 8 n) bytes)) (of_z-to_z w64 value small) written
+
+-- the fields of bytes are packed in them
+pub fields_of-packed : (s : Sizes) (bytes : List ℕ) → length bytes ≡ s.descr → number (piece s.a_at 8 bytes) < 2 ^ 64 → PacksDescr s (fields_of s bytes) bytes
+fields_of-packed s bytes size small = record { size = size; a = sym (of_z-to_z w64 (number (piece s.a_at 8 bytes)) small); f = refl; v = refl }
+
+-- what was packed is read
+pub fields_of-read : (s : Sizes) (d : Descriptor) (bytes : List ℕ) → FitsSigned w64 d.a → PacksDescr s d bytes → fields_of s bytes ≡ d
+fields_of-read s d bytes fits p = same_fields (ap (cast_signed w64) p.a ∙ to_z-of_z w64 d.a fits) p.f p.v
+
+pub fields_read : {a : ℤ} {f v : ℕ} (s : Sizes) (bytes : List ℕ) → a ≡ cast_signed w64 (number (piece s.a_at 8 bytes)) → f ≡ number (piece s.f_at s.f_len bytes) → v ≡ number (piece s.v_at s.v_len bytes) → of_fields a f v ≡ fields_of s bytes
+fields_read s bytes a_is f_is v_is = same_fields a_is f_is v_is

@@ -6,7 +6,7 @@ use Rattle.layout_params.specs.declared.cell.Descr.{Descr as Descriptor}
 use Rattle.layout_params.specs.declared.cell.Cell.{Cell}
 use Rattle.layout_params.specs.declared.cell.Cell.TheVariants.{Descr, Chars}
 use Rattle.layout_params.specs.Sizes.{Sizes, is_legal}
-use Rattle.layout_params.specs.Packing.{PacksDescr, IsPacked, packing, FitsFields}
+use Rattle.layout_params.specs.Packing.{PacksDescr, IsPacked, packing, FitsFields, fields_of, DifferInFreeBytes}
 
 -- A has 64 bits
 abbrev pub FitsInteger : Cell → Type 0
@@ -50,3 +50,11 @@ WritesOfV =
 abbrev pub FieldsAreRead : Type 0
 FieldsAreRead =
     (s : Sizes) (d e : Descriptor) (bytes : List ℕ) → FitsSigned w64 d.a → FitsSigned w64 e.a → PacksDescr s d bytes → PacksDescr s e bytes → d ≡ e
+
+-- what was packed is read
+abbrev pub PackedIsRead : Type 0
+PackedIsRead = (s : Sizes) (d : Descriptor) (bytes : List ℕ) → FitsSigned w64 d.a → PacksDescr s d bytes → fields_of s bytes ≡ d
+
+-- free bytes are not read, and bytes that differ in them stand for the same descriptors
+abbrev pub FreeBytesAreFree : Type 0
+FreeBytesAreFree = (s : Sizes) (xs ys : List ℕ) → DifferInFreeBytes s xs ys → (fields_of s xs ≡ fields_of s ys) × ((d : Descriptor) → PacksDescr s d xs → PacksDescr s d ys)

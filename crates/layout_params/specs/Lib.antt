@@ -1,6 +1,14 @@
 pub mod Sizes
 pub mod Views
 pub mod Packing
-pub mod Parameters
-pub mod ParamsView
 pub mod Laws
+pub mod Parameters
+pub mod SettingsView
+pub mod ParamsView
+pub mod Lines
+pub mod Entries
+pub mod Faults
+pub mod Symbols
+pub mod Held
+pub mod Stops
+pub mod Legal

@@ -52,3 +52,7 @@ value_limit s = min (2 ^ (8 * s.v_len)) (2 ^ 48) - 1
 -- sixteen bytes: A in the first eight, F of two bytes at 8, V of four bytes at 12
 abbrev pub packed_16 : Sizes
 packed_16 = record { descr = 16; a_at = 0; f_at = 8; f_len = 2; v_at = 12; v_len = 4 }
+
+-- twenty-four bytes: A in the first eight, F of four bytes at 8, V of eight bytes at 16
+abbrev pub wide_24 : Sizes
+wide_24 = record { descr = 24; a_at = 0; f_at = 8; f_len = 4; v_at = 16; v_len = 8 }

@@ -1,4 +1,4 @@
--- What contracts see of the numbers of a layout.
+-- What contracts see of the numbers of a layout, and of settings.
 use Rattle.layout_params.specs.declared.candidate.Candidate.{Candidate}
 use Rattle.layout_params.specs.Sizes.{Sizes}
 

@@ -1,7 +1,7 @@
 // Six numbers that may be a layout.
 
-ghost use Rattle.std.specs.Prelude.{◌≡◌, ◌≤◌, ◌<◌, IsTrue};
-ghost use Rattle.layout_params.specs.Sizes.{is_legal, are_apart, field_fits, widths_fit, fields_fit, fields_apart};
+ghost use Rattle.std.specs.Prelude.{◌≡◌, ◌+◌, ◌<◌, nat_le, IsTrue};
+ghost use Rattle.layout_params.specs.Sizes.{is_legal, are_apart, field_fits, descr_fits, f_width_fits, v_width_fits, widths_fit, fields_fit, fields_apart};
 ghost use Rattle.layout_params.specs.Views.{sizes_of};
 
 /// The numbers of a layout, legal or not, in bytes.
@@ -23,31 +23,64 @@ impl Candidate {
         self.has_widths() && self.has_fields_within() && self.has_fields_apart()
     }
 
-    #[tactic(auto, unfolding(crate::specs::Sizes::widths_fit))]
     fn has_widths(&self) -> bool
         ensures { result ≡ widths_fit (sizes_of self.now) }
     {
-        self.descr % 8 == 0
-            && self.descr >= 16
-            && self.descr <= 64
-            && matches!(self.f_len, 1 | 2 | 4)
-            && matches!(self.v_len, 2 | 4 | 8)
+        self.has_descr() && self.has_f_width() && self.has_v_width()
     }
 
-    #[tactic(auto, unfolding(crate::specs::Sizes::fields_fit, crate::specs::Sizes::widths_fit))]
+    #[tactic(auto, unfolding(crate::specs::Sizes::widths_fit))]
     fn has_fields_within(&self) -> bool
         requires { IsTrue (widths_fit (sizes_of self.now)) }
         ensures { result ≡ fields_fit (sizes_of self.now) }
     {
-        is_within(self.descr, self.a_at, 8)
-            && is_within(self.descr, self.f_at, self.f_len)
-            && is_within(self.descr, self.v_at, self.v_len)
+        self.has_a() && self.has_f() && self.has_v()
     }
 
-    #[tactic(auto, unfolding(crate::specs::Sizes::fields_fit, crate::specs::Sizes::widths_fit, crate::specs::Sizes::fields_apart))]
-    fn has_fields_apart(&self) -> bool
-        requires widths { IsTrue (widths_fit (sizes_of self.now)) }
-        requires within { IsTrue (fields_fit (sizes_of self.now)) }
+    /// Whether a descriptor has from 16 to 64 bytes, a multiple of 8.
+    pub fn has_descr(&self) -> bool
+        ensures { result ≡ descr_fits self.now.descr }
+    {
+        self.descr % 8 == 0 && self.descr >= 16 && self.descr <= 64
+    }
+
+    pub fn has_f_width(&self) -> bool
+        ensures { result ≡ f_width_fits self.now.f_len }
+    {
+        matches!(self.f_len, 1 | 2 | 4)
+    }
+
+    pub fn has_v_width(&self) -> bool
+        ensures { result ≡ v_width_fits self.now.v_len }
+    {
+        matches!(self.v_len, 2 | 4 | 8)
+    }
+
+    /// Whether A stands within a descriptor, at a multiple of its width.
+    pub fn has_a(&self) -> bool
+        ensures { result ≡ field_fits self.now.descr self.now.a_at 8 }
+    {
+        is_within(self.descr, self.a_at, 8)
+    }
+
+    /// Whether F stands within a descriptor, at a multiple of its width.
+    pub fn has_f(&self) -> bool
+        requires { IsTrue (f_width_fits self.now.f_len) }
+        ensures { result ≡ field_fits self.now.descr self.now.f_at self.now.f_len }
+    {
+        is_within(self.descr, self.f_at, self.f_len)
+    }
+
+    /// Whether V stands within a descriptor, at a multiple of its width.
+    pub fn has_v(&self) -> bool
+        requires { IsTrue (v_width_fits self.now.v_len) }
+        ensures { result ≡ field_fits self.now.descr self.now.v_at self.now.v_len }
+    {
+        is_within(self.descr, self.v_at, self.v_len)
+    }
+
+    /// Whether no two of the three fields share a byte.
+    pub fn has_fields_apart(&self) -> bool
         ensures { result ≡ fields_apart (sizes_of self.now) }
     {
         is_apart(self.a_at, 8, self.f_at, self.f_len)
@@ -56,16 +89,21 @@ impl Candidate {
     }
 }
 
+fn ends_before(x: u64, n: u64, y: u64) -> bool
+    ensures { result ≡ nat_le (x + n) y }
+{
+    x <= y && n <= y - x
+}
+
 fn is_apart(x: u64, n: u64, y: u64, m: u64) -> bool
-    requires { (x ≤ 64) × (n ≤ 8) × (y ≤ 64) × (m ≤ 8) }
     ensures { result ≡ are_apart x n y m }
 {
-    x + n <= y || y + m <= x
+    ends_before(x, n, y) || ends_before(y, m, x)
 }
 
 fn is_within(descr: u64, at: u64, len: u64) -> bool
-    requires { (0 < len) × (len ≤ 8) × (16 ≤ descr) }
+    requires { 0 < len }
     ensures { result ≡ field_fits descr at len }
 {
-    at % len == 0 && at <= descr - len
+    at % len == 0 && ends_before(at, len, descr)
 }

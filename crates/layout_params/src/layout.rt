@@ -1,8 +1,8 @@
-// What a layout of descriptors is, and the standard one.
+// What a layout of descriptors is, the standard one and a wider one.
 
 ghost use Rattle.std.specs.Prelude.{◌≡◌, IsTrue};
 ghost use Rattle.std.proofs.Common.{rules};
-ghost use Rattle.layout_params.specs.Sizes.{Sizes, is_legal, packed_16};
+ghost use Rattle.layout_params.specs.Sizes.{Sizes, is_legal, packed_16, wide_24};
 
 /// Where the fields of a descriptor stand, and how wide they are, all in bytes. A has eight bytes.
 pub trait Layout {
@@ -66,5 +66,39 @@ impl Layout for Packed16 {
 
     fn v_len(&self) -> u64 {
         4
+    }
+}
+
+/// Twenty-four bytes: A in the first eight, F of four bytes at 8, V of eight bytes at 16.
+#[derive(Clone, Copy, PartialEq, Eq, Debug)]
+pub struct Wide24;
+
+impl Layout for Wide24 {
+    ghost sizes = { λ _. wide_24 };
+
+    ghost legal = { λ _. Prim.search rules };
+
+    fn descr(&self) -> u64 {
+        24
+    }
+
+    fn a_at(&self) -> u64 {
+        0
+    }
+
+    fn f_at(&self) -> u64 {
+        8
+    }
+
+    fn f_len(&self) -> u64 {
+        4
+    }
+
+    fn v_at(&self) -> u64 {
+        16
+    }
+
+    fn v_len(&self) -> u64 {
+        8
     }
 }

@@ -1,7 +1,7 @@
 // A layout that is read at run time.
 
-ghost use Rattle.std.specs.Prelude.{◌≡◌, MatchOption, IsTrue, false};
-ghost use Rattle.layout_params.specs.Sizes.{Sizes, is_legal, packed_16, flag_limit, value_limit};
+ghost use Rattle.std.specs.Prelude.{◌≡◌, ◌^◌, ◌<◌, MatchOption, IsTrue, false};
+ghost use Rattle.layout_params.specs.Sizes.{Sizes, is_legal, flag_limit, value_limit};
 ghost use Rattle.layout_params.specs.Views.{sizes_of};
 
 use crate::candidate::Candidate;
@@ -42,25 +42,18 @@ impl Numbers {
         }
     }
 
-    /// The standard layout.
-    pub(crate) fn standard() -> Numbers
-        ensures { ⟦<Numbers as Layout>⟧.sizes result ≡ packed_16 }
+    /// The layout of these numbers.
+    pub(crate) fn of(sizes: &Candidate) -> Numbers
+        requires { IsTrue (is_legal (sizes_of sizes.now)) }
+        ensures { ⟦<Numbers as Layout>⟧.sizes result ≡ sizes_of sizes.now }
     {
-        Numbers {
-            sizes: Candidate {
-                descr: 16,
-                a_at: 0,
-                f_at: 8,
-                f_len: 2,
-                v_at: 12,
-                v_len: 4,
-            },
-        }
+        Numbers { sizes: *sizes }
     }
 
     /// The largest F field.
     pub(crate) fn flag_limit(&self) -> u64
-        ensures { result ≡ flag_limit (⟦<Numbers as Layout>⟧.sizes self.now) }
+        ensures is_limit { result ≡ flag_limit (⟦<Numbers as Layout>⟧.sizes self.now) }
+        ensures below { result < 2 ^ 32 }
     {
         match self.sizes.f_len {
             1 => 0xff,

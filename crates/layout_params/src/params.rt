@@ -1,29 +1,28 @@
 // The parameters of an installation.
 
-ghost use Rattle.std.specs.Prelude.{◌≡◌, ◌<◌, ◌≤◌, ◌^◌, List, [], ◌∷◌};
-ghost use Rattle.layout_params.specs.Sizes.{Sizes, flag_limit, value_limit};
-ghost use Rattle.layout_params.specs.Parameters.{Parameters, AreLegal, standard};
+ghost use Rattle.std.specs.Prelude.{◌≡◌, ◌<◌, ◌≤◌, ◌^◌, [], ◌∷◌};
+ghost use Rattle.layout_params.specs.Sizes.{flag_limit, value_limit};
+ghost use Rattle.layout_params.specs.Parameters.{Parameters, AreLegal};
+ghost use Rattle.layout_params.specs.Symbols.{symbol_values, symbol_of};
 
 use crate::layout::Layout;
 use crate::numbers::Numbers;
+use crate::settings::Settings;
+use crate::words::index_of;
 use std::marker::Model;
+
+const SYMBOLS: [&[u8]; 17] = [
+    b"DESCR", b"SPEC", b"CPA", b"CPD", b"ALPHSZ", b"SIZLIM", b"FNC", b"MARK", b"PTR", b"STTL",
+    b"TTL", b"STSIZE", b"DYNSIZ", b"OBSIZ", b"UNITI", b"UNITO", b"UNITP",
+];
 
 /// The parameters of an installation, which are legal.
 #[derive(Debug, Drop)]
 pub struct Params {
-    numbers: Numbers,
-    function_flag: u64,
-    mark_flag: u64,
-    pointer_flag: u64,
-    string_title_flag: u64,
-    title_flag: u64,
-    stack_size: u64,
-    dynamic_size: u64,
-    bucket_count: u64,
-    input_unit: u64,
-    output_unit: u64,
-    punch_unit: u64,
-    date: [u8; 8],
+    pub(crate) settings: Settings,
+    pub(crate) input_unit: u64,
+    pub(crate) output_unit: u64,
+    pub(crate) punch_unit: u64,
 }
 
 impl Model for Params {
@@ -39,26 +38,12 @@ impl Model for Params {
 }
 
 impl Params {
-    /// The standard parameters.
-    pub fn standard() -> Params
-        ensures standard { result ≡ standard }
-        ensures legal { AreLegal result }
+    /// The parameters that an image keeps.
+    pub fn settings(&self) -> &Settings
+        ensures value { result.now ≡ self.now.settings }
+        ensures legal { AreLegal self.now }
     {
-        Params {
-            numbers: Numbers::standard(),
-            function_flag: 1,
-            mark_flag: 2,
-            pointer_flag: 4,
-            string_title_flag: 8,
-            title_flag: 16,
-            stack_size: 64,
-            dynamic_size: 100,
-            bucket_count: 256,
-            input_unit: 5,
-            output_unit: 6,
-            punch_unit: 7,
-            date: *b"01/01/70",
-        }
+        &self.settings
     }
 
     /// The layout of a descriptor.
@@ -67,7 +52,7 @@ impl Params {
         ensures legal { AreLegal self.now }
         ensures descr { let s = self.now.settings.sizes in (16 ≤ s.descr) × (s.descr ≤ 64) }
     {
-        &self.numbers
+        self.settings.numbers()
     }
 
     /// The largest V field.
@@ -75,7 +60,7 @@ impl Params {
         ensures is_limit { result ≡ value_limit self.now.settings.sizes }
         ensures below { result < 2 ^ 48 }
     {
-        self.numbers.value_limit()
+        self.numbers().value_limit()
     }
 
     /// The largest F field.
@@ -83,7 +68,7 @@ impl Params {
         ensures is_limit { result ≡ flag_limit self.now.settings.sizes }
         ensures below { result < 2 ^ 32 }
     {
-        self.numbers.flag_limit()
+        self.numbers().flag_limit()
     }
 
     /// The cells of the stack.
@@ -91,7 +76,7 @@ impl Params {
         ensures value { result ≡ self.now.settings.stack_size }
         ensures range { (16 ≤ result) × (result ≤ 65536) }
     {
-        self.stack_size
+        self.settings.stack_size()
     }
 
     /// The cells of dynamic storage.
@@ -99,7 +84,7 @@ impl Params {
         ensures value { result ≡ self.now.settings.dynamic_size }
         ensures range { result ≤ 900000 }
     {
-        self.dynamic_size
+        self.settings.dynamic_size()
     }
 
     /// The buckets of the symbol table.
@@ -107,7 +92,7 @@ impl Params {
         ensures value { result ≡ self.now.settings.bucket_count }
         ensures range { (1 ≤ result) × (result ≤ 4096) }
     {
-        self.bucket_count
+        self.settings.bucket_count()
     }
 
     /// The flags FNC, MARK, PTR, STTL and TTL.
@@ -115,19 +100,56 @@ impl Params {
         ensures { let s = self.now.settings
             in result ≡ s.function_flag ∷ s.mark_flag ∷ s.pointer_flag ∷ s.string_title_flag ∷ s.title_flag ∷ [] }
     {
-        [
-            self.function_flag,
-            self.mark_flag,
-            self.pointer_flag,
-            self.string_title_flag,
-            self.title_flag,
-        ]
+        self.settings.flags()
     }
 
     /// The date, as MM/DD/YY.
     pub fn date(&self) -> [u8; 8]
         ensures { result ≡ self.now.settings.date }
     {
-        self.date
+        self.settings.date()
+    }
+
+    /// The value of a parameter symbol; none where the name isn't one.
+    pub fn symbol(&self, name: &[u8]) -> Option<i64>
+        ensures { result ≡ symbol_of self.now name.now }
+    {
+        match index_of(name, &SYMBOLS) {
+            Some(at) => Some(self.symbol_values()[at] as i64),
+            None => None,
+        }
+    }
+
+    fn symbol_values(&self) -> [u64; 17]
+        ensures values { result ≡ symbol_values self.now }
+        ensures legal { AreLegal self.now }
+    {
+        let descr = self.numbers().descr();
+        let [
+            function_flag,
+            mark_flag,
+            pointer_flag,
+            string_title_flag,
+            title_flag,
+        ] = self.flags();
+        [
+            descr,
+            2 * descr,
+            1,
+            descr,
+            256,
+            self.vmax(),
+            function_flag,
+            mark_flag,
+            pointer_flag,
+            string_title_flag,
+            title_flag,
+            self.stack_size(),
+            self.dynamic_size(),
+            self.bucket_count(),
+            self.input_unit,
+            self.output_unit,
+            self.punch_unit,
+        ]
     }
 }
