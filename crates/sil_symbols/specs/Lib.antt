@@ -1,0 +1,10 @@
+pub mod Parts
+pub mod Expressions
+pub mod Labels
+pub mod Values
+pub mod Addresses
+pub mod Symbols
+pub mod Rules
+pub mod Laws
+pub mod Held
+pub mod Resolved
