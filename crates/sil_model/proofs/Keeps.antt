@@ -9,8 +9,8 @@ use Rattle.std.proofs.lemmas.List.Elements.{All-set}
 use Rattle.layout_params.specs.declared.cell.Cell.{Cell}
 use Rattle.layout_params.specs.declared.cell.Cell.TheVariants.{Descr, Chars}
 use Rattle.layout_params.specs.declared.cell.Descr.{Descr as Descriptor}
-use Rattle.sil_model.specs.declared.macros.Macro.{Macro}
-use Rattle.sil_model.specs.declared.macros.Macro.TheVariants.{Endex, Incra, Movd}
+use Rattle.sil_macros.specs.declared.names.Macro.{Macro}
+use Rattle.sil_macros.specs.declared.names.Macro.TheVariants.{Endex, Incra, Movd}
 use Rattle.sil_model.specs.declared.program.Arg.{Arg}
 use Rattle.sil_model.specs.declared.program.Flow.{Flow}
 use Rattle.sil_model.specs.declared.program.Flow.TheVariants.{To}
@@ -114,3 +114,4 @@ unfolding clause
 clause_keeps last Endex args m h = endex_keeps last args m h
 clause_keeps last Incra args m h = incra_keeps last args m h
 clause_keeps last Movd args m h = movd_keeps last args m h
+clause_keeps last _ args m h = tt

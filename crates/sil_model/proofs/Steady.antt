@@ -8,8 +8,8 @@ use Rattle.layout_params.specs.Sizes.{Sizes, is_legal, widths_fit, fields_fit, f
 use Rattle.layout_params.specs.Parameters.{Settings}
 use Rattle.layout_params.specs.declared.cell.Cell.{Cell}
 use Rattle.sil_base.specs.Tapes.{Tapes}
-use Rattle.sil_model.specs.declared.macros.Macro.{Macro}
-use Rattle.sil_model.specs.declared.macros.Macro.TheVariants.{Endex, Incra, Movd}
+use Rattle.sil_macros.specs.declared.names.Macro.{Macro}
+use Rattle.sil_macros.specs.declared.names.Macro.TheVariants.{Endex, Incra, Movd}
 use Rattle.sil_model.specs.declared.program.Arg.{Arg}
 use Rattle.sil_model.specs.declared.program.Arg.TheVariants.{Place, Number}
 use Rattle.sil_model.specs.declared.program.Flow.TheVariants.{Next, To, Exit, Trap}

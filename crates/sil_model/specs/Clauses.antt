@@ -1,7 +1,7 @@
 -- What each macro does. None stands for a use that is undefined.
 use Rattle.std.specs.Prelude.{ℕ, zero, List, Option, Some, None, ℤ, pos}
-use Rattle.sil_model.specs.declared.macros.Macro.{Macro}
-use Rattle.sil_model.specs.declared.macros.Macro.TheVariants.{Endex, Incra, Movd}
+use Rattle.sil_macros.specs.declared.names.Macro.{Macro}
+use Rattle.sil_macros.specs.declared.names.Macro.TheVariants.{Endex, Incra, Movd}
 use Rattle.sil_model.specs.declared.program.Arg.{Arg}
 use Rattle.sil_model.specs.declared.program.Flow.{Flow}
 use Rattle.sil_model.specs.declared.program.Flow.TheVariants.{Next, Exit}
@@ -53,8 +53,13 @@ movd args m = do
   value ← descr_at m d2
   onward (set_descr_at m d1 value)
 
+-- a macro that isn't built is undefined
+abbrev pub not_built : List Arg → Memory → Effect
+not_built args m = None
+
 -- the table of clauses
 unfoldable pub clause : Macro → List Arg → Memory → Effect
 clause Endex = endex
 clause Incra = incra
 clause Movd = movd
+clause _ = not_built

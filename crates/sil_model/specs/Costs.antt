@@ -1,8 +1,8 @@
 -- The instructions that a statement may take.
 use Rattle.std.specs.Prelude.{ℕ, ◌+◌, ◌*◌, List, [], ◌∷◌, length}
 use Rattle.layout_params.specs.Parameters.{Settings}
-use Rattle.sil_model.specs.declared.macros.Macro.{Macro}
-use Rattle.sil_model.specs.declared.macros.Macro.TheVariants.{Endex, Incra, Movd}
+use Rattle.sil_macros.specs.declared.names.Macro.{Macro}
+use Rattle.sil_macros.specs.declared.names.Macro.TheVariants.{Endex, Incra, Movd}
 use Rattle.sil_model.specs.declared.program.Arg.{Arg}
 use Rattle.sil_model.specs.declared.program.Arg.TheVariants.{Places, Gotos}
 use Rattle.sil_model.specs.declared.program.Statement.{Statement}
@@ -23,6 +23,7 @@ abbrev pub visits : Macro → State → ℕ
 visits Endex s = 1
 visits Incra s = 2
 visits Movd s = 2
+visits _ s = 0
 
 unfoldable pub weight : Statement → State → ℕ
 weight statement s = operand_count statement.args + visits statement.name s

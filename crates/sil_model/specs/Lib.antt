@@ -1,4 +1,3 @@
-pub mod Macros
 pub mod Integers
 pub mod Memory
 pub mod Access

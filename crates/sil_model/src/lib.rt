@@ -6,7 +6,6 @@ mod cells;
 mod end;
 mod laws;
 mod limits;
-mod macros;
 mod program;
 mod table;
 #[cfg(test)]
@@ -16,6 +15,5 @@ pub use cells::Cells;
 pub use end::End;
 pub use laws::{law_of_runs, law_of_steps};
 pub use limits::{FIRST_CELL, FIRST_ENTRY, Limits, limits_of};
-pub use macros::{Macro, macro_at, number_of_macro};
 pub use program::{Arg, Flow, Program, Specials, Statement, number, place};
 pub use table::{Action, Entry, Table};

@@ -3,10 +3,10 @@
 ghost use Rattle.std.specs.Prelude.{◌≡◌};
 ghost use Rattle.sil_model.specs.Arguments.{place_at, number_at};
 
-use crate::macros::Macro;
 use crate::table::{Action, Table};
 use layout_params::Cell;
 use sil_base::{Items, Record};
+use sil_macros::Macro;
 
 /// An operand. A location that is none is the next statement; `Absent` is any other null operand.
 #[derive(Drop)]
