@@ -1,9 +1,9 @@
 -- The word of an instruction, by the formats R, I, S, B, U and J.
-use Rattle.std.specs.Prelude.{◌≡◌, ℕ, ◌+◌, ◌-◌, ◌*◌, ◌/◌, ◌%◌, ◌^◌, ◌<◌, ℤ, pos, negsuc, suc, Option, MatchOption, ◌≢◌}
+use Rattle.std.specs.Prelude.{◌≡◌, ℕ, ◌+◌, ◌-◌, ◌*◌, ◌/◌, ◌%◌, ◌^◌, ◌<◌, ℤ, pos, negsuc, suc, Option, Some, None, MatchOption, ◌≢◌}
 use Rattle.rv_isa.specs.declared.instr.Instr.{Instr}
 use Rattle.rv_isa.specs.declared.instr.Instr.TheVariants.{R, I, S, B, U, J, Ecall}
 use Rattle.rv_isa.specs.declared.parts.Parts.{Parts}
-use Rattle.rv_isa.specs.Rows.{r_row, i_row, s_row, b_row, u_row}
+use Rattle.rv_isa.specs.Rows.{r_row, i_row, shift_row, s_row, b_row, u_row}
 
 -- a word by its fields of 7, 5, 3, 5, 5 and 7 bits, the lowest first
 abbrev pub joined : Parts → ℕ
@@ -31,6 +31,17 @@ IsFrom h (negsuc n) = n < 2 ^ h
 abbrev pub IsEven : ℤ → Type 0
 IsEven (pos n) = n % 2 ≡ 0
 IsEven (negsuc n) = n % 2 ≡ 1
+
+-- the immediate of I: 12 bits with a sign, or an amount of the bits that a shift has for it
+abbrev pub FitsI : Option (ℕ × ℕ) → ℤ → Type 0
+FitsI None z = IsFrom 11 z
+FitsI (Some row) (pos n) = n < 2 ^ row.0
+FitsI (Some row) (negsuc n) = ⊥
+
+-- the twelve bits of an immediate of I, where a shift has its upper bits
+abbrev pub twelve : Option (ℕ × ℕ) → ℤ → ℕ
+twelve None z = twos 12 z
+twelve (Some row) z = twos 12 z + 2 ^ row.0 * row.1
 
 abbrev pub fields_r : ℕ × ℕ × ℕ → ℕ → ℕ → ℕ → Parts
 fields_r row rd rs1 rs2 =
@@ -62,7 +73,7 @@ upper_j bits = bits / 2 ^ 12 % 2 ^ 8 + 2 ^ 8 * (bits / 2 ^ 11 % 2) + 2 ^ 9 * (bi
 
 abbrev pub fields_of : Instr → Parts
 fields_of (R op rd rs1 rs2) = fields_r (r_row op) rd rs1 rs2
-fields_of (I op rd rs1 imm) = fields_i (i_row op) rd rs1 (twos 12 imm)
+fields_of (I op rd rs1 imm) = fields_i (i_row op) rd rs1 (twelve (shift_row op) imm)
 fields_of (S op rs1 rs2 imm) = fields_s (s_row op) rs1 rs2 (twos 12 imm)
 fields_of (B op rs1 rs2 imm) = fields_b (b_row op) rs1 rs2 (twos 13 imm)
 fields_of (U op rd imm) = fields_u (u_row op) rd imm
@@ -76,7 +87,7 @@ word_of i = joined (fields_of i)
 -- what has a word: registers below 32, and immediates in their format's range
 abbrev pub IsInstr : Instr → Type 0
 IsInstr (R op rd rs1 rs2) = (rd < 32) × (rs1 < 32) × (rs2 < 32)
-IsInstr (I op rd rs1 imm) = (rd < 32) × (rs1 < 32) × IsFrom 11 imm
+IsInstr (I op rd rs1 imm) = (rd < 32) × (rs1 < 32) × FitsI (shift_row op) imm
 IsInstr (S op rs1 rs2 imm) = (rs1 < 32) × (rs2 < 32) × IsFrom 11 imm
 IsInstr (B op rs1 rs2 imm) = (rs1 < 32) × (rs2 < 32) × IsFrom 12 imm × IsEven imm
 IsInstr (U op rd imm) = (rd < 32) × (imm < 2 ^ 20)

@@ -6,13 +6,13 @@ ghost use Rattle.rv_isa.specs.Decoded.{decoded, Reads, decoded_parts, decoded_r,
 ghost use Rattle.rv_isa.specs.declared.instr.Instr.{Instr};
 
 use crate::fields::split;
-use crate::immediates::{from_12, from_13, from_21};
+use crate::immediates::{from_12, from_13, from_21, from_i};
 use crate::instr::{Instr, UOp};
 use crate::parts::Parts;
 use crate::rows::{b_op, i_op, r_op, s_op};
 
 /// The instruction of a word, or `None` where no instruction has the word
-/// (RISC-V unprivileged manual, RV64I).
+/// (RISC-V unprivileged manual, RV64I and M).
 #[tactic(auto, unfolding(crate::specs::Decoded::decoded), using(crate::proofs::Back::parts_joined))]
 pub fn decode(word: u32) -> Option<Instr>
     ensures same { result ≡ decoded word }
@@ -28,8 +28,8 @@ fn instr_of(f: Parts) -> Option<Instr>
     ensures reads { Decodes result f }
 {
     match f.opcode {
-        0x33 => r_instr(f),
-        0x13 | 0x03 => i_instr(f),
+        0x33 | 0x3b => r_instr(f),
+        0x13 | 0x1b | 0x03 | 0x67 | 0x0f => i_instr(f),
         0x23 => s_instr(f),
         0x63 => b_instr(f),
         0x37 => Some(Instr::U {
@@ -50,7 +50,7 @@ fn instr_of(f: Parts) -> Option<Instr>
 
 fn r_instr(f: Parts) -> Option<Instr>
     requires parts { AreParts f }
-    requires opcode { f.opcode ≡ 0x33 }
+    requires opcode { (f.opcode ≡ 0x33) ⊎ (f.opcode ≡ 0x3b) }
     ensures same { result ≡ decoded_r f }
     ensures reads { Decodes result f }
 {
@@ -65,17 +65,17 @@ fn r_instr(f: Parts) -> Option<Instr>
 
 fn i_instr(f: Parts) -> Option<Instr>
     requires parts { AreParts f }
-    requires opcode { (f.opcode ≡ 0x13) ⊎ (f.opcode ≡ 0x03) }
+    requires opcode { (f.opcode ≡ 0x13) ⊎ (f.opcode ≡ 0x1b) ⊎ (f.opcode ≡ 0x03) ⊎ (f.opcode ≡ 0x67) ⊎ (f.opcode ≡ 0x0f) }
     ensures same { result ≡ decoded_i f }
     ensures reads { Decodes result f }
 {
-    let op = i_op(f.opcode, f.funct3)?;
-    let imm = from_12(f.rs2 as u16 + 32 * f.funct7 as u16);
+    let bits = f.rs2 as u16 + 32 * f.funct7 as u16;
+    let op = i_op(f.opcode, f.funct3, bits)?;
     Some(Instr::I {
         op,
         rd: f.rd,
         rs1: f.rs1,
-        imm,
+        imm: from_i(op, bits),
     })
 }
 

@@ -1,10 +1,42 @@
 //! Immediates to their bits in two's complement, and back.
 
-ghost use Rattle.std.specs.Prelude.{◌≡◌, ◌<◌, ◌^◌, ◌%◌};
-ghost use Rattle.rv_isa.specs.Decoded.{signed};
-ghost use Rattle.rv_isa.specs.Words.{twos, IsFrom, IsEven};
+ghost use Rattle.std.specs.Prelude.{◌≡◌, ◌<◌, ◌^◌, ◌%◌, IsTrue};
+ghost use Rattle.rv_isa.specs.Decoded.{immediate_i, signed, takes_bits};
+ghost use Rattle.rv_isa.specs.Rows.{shift_row};
+ghost use Rattle.rv_isa.specs.Words.{twos, twelve, FitsI, IsFrom, IsEven};
 
-/// The 12 bits of an immediate of format I or S.
+use crate::instr::IOp;
+
+/// The 12 bits of an immediate of format I, where a shift by an amount has its upper bits.
+pub(crate) fn bits_i(op: IOp, imm: i16) -> u16
+    requires { FitsI (shift_row op) imm }
+    ensures same { result ≡ twelve (shift_row op) imm }
+    ensures below { result < 2 ^ 12 }
+{
+    match op {
+        IOp::Srai => 64 * 0x10 + imm.cast_unsigned(),
+        IOp::Sraiw => 32 * 0x20 + imm.cast_unsigned(),
+        IOp::Slli | IOp::Srli | IOp::Slliw | IOp::Srliw => imm.cast_unsigned(),
+        _ => bits_12(imm),
+    }
+}
+
+/// The immediate of format I with these bits, which has the upper bits of its shift.
+pub(crate) fn from_i(op: IOp, bits: u16) -> i16
+    requires below { bits < 2 ^ 12 }
+    requires takes { IsTrue (takes_bits (shift_row op) bits) }
+    ensures is { result ≡ immediate_i (shift_row op) bits }
+    ensures same { twelve (shift_row op) result ≡ bits }
+    ensures range { FitsI (shift_row op) result }
+{
+    match op {
+        IOp::Slli | IOp::Srli | IOp::Srai => (bits % 64) as i16,
+        IOp::Slliw | IOp::Srliw | IOp::Sraiw => (bits % 32) as i16,
+        _ => from_12(bits),
+    }
+}
+
+/// The 12 bits of an immediate of format I or S with its sign.
 pub(crate) fn bits_12(imm: i16) -> u16
     requires { IsFrom 11 imm }
     ensures same { result ≡ twos 12 imm }

@@ -1,4 +1,4 @@
-//! Instructions of RV64I and the 32-bit words that hold them, by the formats of the RISC-V unprivileged manual.
+//! Instructions of RV64I and M and the 32-bit words that hold them, by the formats of the RISC-V unprivileged manual.
 #![tactic(auto)]
 
 mod decoding;
