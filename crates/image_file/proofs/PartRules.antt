@@ -1,7 +1,7 @@
 -- The rules of an image's parts, a part at a time.
 use Rattle.std.proofs.Common.{◌≡◌, ℕ, suc, ◌/◌, ◌≤◌, ◌<◌, ◌^◌, ◌&&◌, All, List, length, map, take, drop, get_or, ap, arith, length-drop}
 use Rattle.std.proofs.lemmas.List.{get_or-map, length-map}
-use Rattle.sil_model.specs.declared.macros.Macro.{Macro}
+use Rattle.sil_macros.specs.declared.names.Macro.{Macro}
 use Rattle.image_file.specs.Image.{entry_fits, entries_fit, entry_of}
 
 -- the first entry, and the others

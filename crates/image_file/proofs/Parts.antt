@@ -3,9 +3,9 @@ use Rattle.std.proofs.Common.{map, inl, inr, Bool, true, false, ◌||◌, ◌==�
 use Rattle.std.proofs.lemmas.List.{take-append-drop, append-nil, map-append, take_at, drop_at, drop-drop}
 use Rattle.std.proofs.lemmas.Bool.{cases_lt}
 use Rattle.layout_params.specs.Parameters.{is_bit_below}
-use Rattle.sil_model.specs.declared.macros.Macro.{Macro}
-use Rattle.sil_model.specs.declared.macros.Macro.TheVariants.{Endex, Incra, Movd}
-use Rattle.sil_model.specs.Macros.{number_of}
+use Rattle.sil_macros.specs.declared.names.Macro.{Macro}
+use Rattle.sil_macros.specs.Macros.{number_of}
+use Rattle.sil_macros.proofs.FoundLemmas.{number_below}
 use Rattle.image_file.specs.Image.{StatementEntry, entry_of}
 use Rattle.sil_base.specs.Bytes.{number, low_bytes}
 use Rattle.sil_base.proofs.Numbers.{length-low_bytes, number-low_bytes}
@@ -79,22 +79,8 @@ bit_below (suc w) k n lt e = elim (cases_lt k w) [ inl below ↦ either_true (n 
 
 -- ---- entries
 
-pub number_of_below : (m : Macro) → number_of m < 256 ^ 2
-number_of_below Endex = omega arith
-number_of_below Incra = omega arith
-number_of_below Movd = omega arith
-
--- no two macros have one number
-pub same_macro : (m n : Macro) → number_of m ≡ number_of n → m ≡ n
-same_macro Endex Endex h = refl
-same_macro Endex Incra h = absurd (omega arith)
-same_macro Endex Movd h = absurd (omega arith)
-same_macro Incra Endex h = absurd (omega arith)
-same_macro Incra Incra h = refl
-same_macro Incra Movd h = absurd (omega arith)
-same_macro Movd Endex h = absurd (omega arith)
-same_macro Movd Incra h = absurd (omega arith)
-same_macro Movd Movd h = refl
+number_of_below : (m : Macro) → number_of m < 256 ^ 2
+number_of_below m = omega (arith, number_below m)
 
 -- what stands in the bytes of an entry
 pub record HoldsEntry (e : StatementEntry) (bytes : List ℕ) : Type 0 where

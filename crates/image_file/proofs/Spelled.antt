@@ -6,7 +6,7 @@ use Rattle.std.proofs.Math.Nat.{mul-zero}
 use Rattle.std.proofs.Math.Pow.{pow-lt}
 use Rattle.sil_base.specs.Bytes.{low_bytes}
 use Rattle.sil_base.proofs.Numbers.{length-low_bytes}
-use Rattle.sil_model.specs.declared.macros.Macro.{Macro}
+use Rattle.sil_macros.specs.declared.names.Macro.{Macro}
 use Rattle.layout_params.specs.Parameters.{Settings, AreLegalSettings, AreBits, is_bit_below}
 use Rattle.layout_params.proofs.LegalLayouts.{IsLegal, legal}
 use Rattle.image_file.specs.Image.{Image, StatementEntry, IsImage, image_of, entry_of, places_rise, first_place}

@@ -2,7 +2,7 @@
 use Rattle.std.specs.Prelude.{◌≡◌, ℕ, zero, suc, ◌+◌, ◌*◌, ◌/◌, ◌%◌, ◌^◌, ◌<◌, ◌≤◌, List, [], ◌∷◌, length, map, take, drop, All, Bool, true, ◌&&◌, ◌==◌, nat_lt, nat_le, if◌then◌else◌, IsTrue, slice_index}
 use Rattle.sil_base.specs.Bytes.{number, piece}
 use Rattle.layout_params.specs.Parameters.{Settings, AreLegalSettings}
-use Rattle.sil_model.specs.declared.macros.Macro.{Macro}
+use Rattle.sil_macros.specs.declared.names.Macro.{Macro}
 use Rattle.sil_model.specs.Start.{all_cells}
 
 -- where a statement's code begins, the number of its card, and its macro

@@ -3,7 +3,7 @@ use Rattle.std.specs.Prelude.{ℕ, List, [], ◌∷◌, ◌++◌, length, codes}
 use Rattle.std.specs.List.{flat_map}
 use Rattle.sil_base.specs.Bytes.{low_bytes}
 use Rattle.layout_params.specs.Parameters.{Settings}
-use Rattle.sil_model.specs.Macros.{number_of}
+use Rattle.sil_macros.specs.Macros.{number_of}
 use Rattle.image_file.specs.Image.{Image, StatementEntry, table_count}
 
 -- DESCR, AOFF, FOFF, FLEN, VOFF, VLEN, FNC, MARK, PTR, STTL, TTL, STSIZE, DYNSIZ and OBSIZ

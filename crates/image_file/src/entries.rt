@@ -7,7 +7,7 @@ ghost use Rattle.image_file.specs.Reading.{FitEntries};
 
 use crate::numbers::{number_16, number_32, number_64};
 use crate::stop::ImageStop;
-use sil_model::{Macro, macro_at};
+use sil_macros::{Macro, macro_at};
 use std::alloc::Global;
 
 /// The place, card and macro of each statement, in sixteen bytes each.

@@ -9,7 +9,7 @@ ghost use Rattle.image_file.specs.Spelling.{parameters_of};
 use crate::rules::{are_kinds, are_tables, places_rise};
 use crate::settings::ImageSettings;
 use layout_params::{Layout, Numbers, Params};
-use sil_model::Macro;
+use sil_macros::Macro;
 use std::marker::Model;
 
 /// The image of a program, which keeps to every limit.

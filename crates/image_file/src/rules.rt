@@ -4,7 +4,7 @@ ghost use Rattle.sil_base.specs.Bytes.{number};
 ghost use Rattle.image_file.specs.Image.{places_rise, first_place, entry_of, entry_fits, entries_fit};
 
 use crate::numbers::{number_16, number_32, number_64};
-use sil_model::Macro;
+use sil_macros::Macro;
 
 /// The place of the first code word.
 const FIRST_PLACE: u64 = 0x1_0000;

@@ -1,7 +1,7 @@
 use super::*;
-use layout_params::{Layout, Params};
-use sil_model::Macro;
-use std::alloc::{AllocError, Global};
+use layout_params::{Layout, ParamStop, STANDARD_PARAMS, read_params};
+use sil_macros::Macro;
+use std::alloc::Global;
 use std::test::Fail;
 
 const FIRST: (u64, u32, Macro) = (0x1_0000, 7, Macro::Endex);
@@ -11,9 +11,9 @@ fn image_of(
     alloc: Global,
     statements: &[(u64, u32, Macro)],
     kinds: &[u8],
-) -> Result<Option<Image>, AllocError> {
+) -> Result<Option<Image>, ParamStop> {
     Ok(Image::new(
-        &Params::standard(),
+        &read_params(alloc, STANDARD_PARAMS)?,
         Vec::from_slice(alloc, statements)?,
         Vec::from_slice(alloc, &[0x73u32, 0x13])?,
         Vec::from_slice(alloc, b"(X)")?,
@@ -87,8 +87,63 @@ fn bytes_that_are_no_image_are_refused_by_their_part(rt: HostRuntime) -> Result<
 fn parts_that_are_no_image_are_refused(rt: HostRuntime) -> Result<(), Fail> {
     let odd = (0x1_0002, 7, Macro::Endex);
     assert!(rt; image_of(rt.alloc(), &[odd], &[0])?.is_none());
+    let below = (0xfffc, 7, Macro::Endex);
+    assert!(rt; image_of(rt.alloc(), &[below], &[0])?.is_none());
+    let past = (0x1_0008, 7, Macro::Endex);
+    assert!(rt; image_of(rt.alloc(), &[past], &[0])?.is_none());
+    let last = (0x1_0004, 7, Macro::Endex);
+    assert!(rt; image_of(rt.alloc(), &[FIRST, last], &[0])?.is_some());
+    assert!(rt; image_of(rt.alloc(), &[last, FIRST], &[0])?.is_none());
     assert!(rt; image_of(rt.alloc(), &[FIRST, FIRST], &[0])?.is_none());
     assert!(rt; image_of(rt.alloc(), &[FIRST], &[2])?.is_none());
     assert!(rt; image_of(rt.alloc(), &[FIRST], &[0, 0])?.is_none());
+    Ok(())
+}
+
+// these code words and tables alone
+fn bare(alloc: Global, words: &[u32], tables: &[u8]) -> Result<Option<Image>, ParamStop> {
+    Ok(Image::new(
+        &read_params(alloc, STANDARD_PARAMS)?,
+        Vec::new(alloc),
+        Vec::from_slice(alloc, words)?,
+        Vec::new(alloc),
+        Vec::new(alloc),
+        Vec::new(alloc),
+        Vec::from_slice(alloc, tables)?,
+    ))
+}
+
+// the first entry of the one table, and whether it fits
+static ENTRIES: [([u8; 16], bool); 9] = [
+    ([4, 0, 0, 0, 0, 0, 0, 0, 0, 0, 0, 0, 0, 0, 0, 0], true),
+    ([5, 0, 0, 0, 0, 0, 0, 0, 0, 0, 0, 0, 0, 0, 0, 0], false),
+    ([1, 0, 0, 0, 0, 0, 0, 0, 0, 0, 0, 0, 0, 0, 0, 0], true),
+    ([1, 0, 1, 0, 0, 0, 0, 0, 0, 0, 0, 0, 0, 0, 0, 0], false),
+    ([0, 0, 0, 1, 0, 0, 0, 0, 0, 0, 0, 0, 0, 0, 0, 0], false),
+    ([0, 1, 0, 0, 0, 0, 0, 0, 5, 0, 0, 0, 0, 0, 0, 128], true),
+    ([0, 2, 0, 0, 0, 0, 0, 0, 0, 0, 0, 0, 0, 0, 0, 0], false),
+    ([0, 0, 0, 0, 0, 0, 0, 0, 5, 0, 0, 0, 0, 0, 0, 0], false),
+    ([0, 0, 0, 0, 0, 0, 0, 1, 0, 0, 0, 0, 0, 0, 0, 0], false),
+];
+
+#[test]
+fn entries_of_tables_keep_to_their_rule(rt: HostRuntime) -> Result<(), Fail> {
+    for (entry, fits) in &ENTRIES {
+        let mut table = Vec::from_slice(rt.alloc(), entry)?;
+        table.resize(4096, 0)?;
+        assert_eq!(rt;
+            bare(rt.alloc(), &[0], &table)?.is_some(),
+            *fits,
+            "{entry:?}"
+        );
+    }
+    Ok(())
+}
+
+#[test]
+fn an_image_has_words_and_whole_tables(rt: HostRuntime) -> Result<(), Fail> {
+    assert!(rt; bare(rt.alloc(), &[0], &[])?.is_some());
+    assert!(rt; bare(rt.alloc(), &[], &[])?.is_none());
+    assert!(rt; bare(rt.alloc(), &[0], &[0; 16])?.is_none());
     Ok(())
 }

@@ -6,7 +6,7 @@ ghost use Rattle.image_file.specs.Spelling.{spelling, heading, settings_part, co
 
 use crate::image::Image;
 use crate::numbers::{put_16, put_32, put_64, put_all_32, put_all_64};
-use sil_model::{Macro, number_of_macro};
+use sil_macros::{Macro, number_of_macro};
 use std::alloc::{AllocError, Global};
 
 /// The bytes of an image file.

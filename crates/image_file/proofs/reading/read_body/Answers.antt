@@ -4,7 +4,7 @@ use Rattle.std.proofs.lemmas.List.{length-map}
 use Rattle.std.proofs.lemmas.Grind.{common_steps}
 use Rattle.layout_params.specs.Sizes.{Sizes}
 use Rattle.layout_params.specs.Parameters.{Settings}
-use Rattle.sil_model.specs.declared.macros.Macro.{Macro}
+use Rattle.sil_macros.specs.declared.names.Macro.{Macro}
 use Rattle.image_file.specs.Image.{entry_of, places_rise, first_place}
 use Rattle.image_file.specs.Spelling.{entry_part, numbers_in}
 use Rattle.image_file.specs.Reading.{data_part}

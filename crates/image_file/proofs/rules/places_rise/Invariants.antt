@@ -1,5 +1,5 @@
 use Rattle.std.proofs.Common.{◌≡◌, ℕ, ◌<◌, ◌^◌, map, drop, get_or}
-use Rattle.sil_model.specs.declared.macros.Macro.{Macro}
+use Rattle.sil_macros.specs.declared.names.Macro.{Macro}
 use Rattle.image_file.specs.Image.{places_rise, first_place, entry_of}
 use Rattle.image_file.proofs.rules.places_rise.Given as goal
 
