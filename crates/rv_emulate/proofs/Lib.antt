@@ -3,3 +3,5 @@ pub mod LittleNumbers
 pub mod Turns
 pub mod Alike
 pub mod Standing
+pub mod Ranges
+pub mod Places

@@ -14,12 +14,12 @@ use Rattle.rv_emulate.specs.States.{State, Outcome, On, Ended, steps_left}
 use Rattle.rv_emulate.specs.Steps.{step}
 use Rattle.rv_emulate.specs.Runs.{run, on_state, end_of, entry_from, entry_at, met_with, met_now}
 use Rattle.rv_emulate.specs.Cpus.{CpuState, IsOf, stands, stands_with, state}
-use Rattle.rv_emulate.specs.View.{state_of, image_of, view_of, entry_of, Steps, Runs}
-use Rattle.rv_emulate.proofs.Alike.{AreAlike, taped, taped_outcome, step_alike, run_alike}
+use Rattle.rv_emulate.specs.View.{state_of, view_of, entry_of, code_step, code_run, Steps, Runs}
+use Rattle.rv_emulate.proofs.Alike.{IsCodeOf, taped, taped_outcome, step_alike, run_alike}
 
-alike : (image : Image) (code : Code) (u : Hart) (e : Option CpuEnd) → IsOf image (view_of code u e) → AreAlike (image_of code) image
+alike : (image : Image) (code : Code) (u : Hart) (e : Option CpuEnd) → IsOf image (view_of code u e) → IsCodeOf code image
 alike image code u e h = record {
-  words = h.words;
+  instrs = h.code;
   constants = h.constants;
   count = length-map code.places.items entry_of ∙ ap length h.places ∙ length-map image.statements (λ e. e.place);
 }
@@ -34,23 +34,23 @@ ended_taped tapes (On v) d s t h = absurd h
 ended_taped tapes (Ended e v) d s t h = ap (λ x. Ended x tapes) (sym h.0)
 
 -- a Cpu that hadn't ended, after a step that was made
-pub next_stands : (image : Image) (code : Code) (u v : Hart) (e : Option CpuEnd) (cpu : CpuState) (tapes : Tapes) → e ≡ None → view_of code u e ≡ cpu → IsOf image cpu → Steps (step (image_of code) (state_of u)) steps.Next (state_of u) (state_of v) → stands (view_of code v e) tapes ≡ on_state (stands cpu tapes) (step image)
+pub next_stands : (image : Image) (code : Code) (u v : Hart) (e : Option CpuEnd) (cpu : CpuState) (tapes : Tapes) → e ≡ None → view_of code u e ≡ cpu → IsOf image cpu → Steps (code_step code (state_of u)) steps.Next (state_of u) (state_of v) → stands (view_of code v e) tapes ≡ on_state (stands cpu tapes) (step image)
 next_stands image code u v e cpu tapes none is of h =
     let P : CpuState → Type 0 = λ c. IsOf image c in
     let a = alike image code u e (subst P (sym is) of) in
     ap (λ x. stands_with x (taped tapes (state_of v))) none
-    ∙ next_taped tapes (step (image_of code) (state_of u)) (state_of u) (state_of v) h
-    ∙ sym (step_alike tapes (image_of code) image a (state_of u))
+    ∙ next_taped tapes (code_step code (state_of u)) (state_of u) (state_of v) h
+    ∙ sym (step_alike tapes code image a (state_of u))
     ∙ ap (λ x. on_state (stands_with x (taped tapes (state_of u))) (step image)) (sym none)
     ∙ ap (λ c. on_state (stands c tapes) (step image)) is
 
 -- and after one that ended its run
-pub ended_stands : (image : Image) (code : Code) (u v : Hart) (e : Option CpuEnd) (d : CpuEnd) (cpu : CpuState) (tapes : Tapes) → e ≡ None → view_of code u e ≡ cpu → IsOf image cpu → Steps (step (image_of code) (state_of u)) (steps.Ended d) (state_of u) (state_of v) → Ended (Some d) tapes ≡ on_state (stands cpu tapes) (step image)
+pub ended_stands : (image : Image) (code : Code) (u v : Hart) (e : Option CpuEnd) (d : CpuEnd) (cpu : CpuState) (tapes : Tapes) → e ≡ None → view_of code u e ≡ cpu → IsOf image cpu → Steps (code_step code (state_of u)) (steps.Ended d) (state_of u) (state_of v) → Ended (Some d) tapes ≡ on_state (stands cpu tapes) (step image)
 ended_stands image code u v e d cpu tapes none is of h =
     let P : CpuState → Type 0 = λ c. IsOf image c in
     let a = alike image code u e (subst P (sym is) of) in
-    ended_taped tapes (step (image_of code) (state_of u)) d (state_of u) (state_of v) h
-    ∙ sym (step_alike tapes (image_of code) image a (state_of u))
+    ended_taped tapes (code_step code (state_of u)) d (state_of u) (state_of v) h
+    ∙ sym (step_alike tapes code image a (state_of u))
     ∙ ap (λ x. on_state (stands_with x (taped tapes (state_of u))) (step image)) (sym none)
     ∙ ap (λ c. on_state (stands c tapes) (step image)) is
 
@@ -61,18 +61,18 @@ run_taped tapes (Ended e v) None t h = absurd h
 run_taped tapes (Ended e v) (Some d) t h = ap (λ x. Ended x tapes) (sym h.0)
 
 -- the run of a Cpu that hadn't ended, from where it stood
-stood : (image : Image) (code : Code) (u : Hart) (e : Option CpuEnd) (cpu : CpuState) (tapes : Tapes) (n : ℕ) → e ≡ None → view_of code u e ≡ cpu → IsOf image cpu → taped_outcome tapes (run (image_of code) n (state_of u)) ≡ on_state (stands cpu tapes) (run image n)
+stood : (image : Image) (code : Code) (u : Hart) (e : Option CpuEnd) (cpu : CpuState) (tapes : Tapes) (n : ℕ) → e ≡ None → view_of code u e ≡ cpu → IsOf image cpu → taped_outcome tapes (code_run code n (state_of u)) ≡ on_state (stands cpu tapes) (run image n)
 stood image code u e cpu tapes n none is of =
     let P : CpuState → Type 0 = λ c. IsOf image c in
     let a = alike image code u e (subst P (sym is) of) in
-    sym (run_alike tapes (image_of code) image a n (state_of u))
+    sym (run_alike tapes code image a n (state_of u))
     ∙ ap (λ x. on_state (stands_with x (taped tapes (state_of u))) (run image n)) (sym none)
     ∙ ap (λ c. on_state (stands c tapes) (run image n)) is
 
 -- a Cpu that hadn't ended, after a run
-pub run_stands : (image : Image) (code : Code) (u v : Hart) (e r : Option CpuEnd) (cpu : CpuState) (tapes : Tapes) (n : ℕ) → e ≡ None → view_of code u e ≡ cpu → IsOf image cpu → Runs (run (image_of code) n (state_of u)) r (state_of v) → stands (view_of code v r) tapes ≡ on_state (stands cpu tapes) (run image n)
+pub run_stands : (image : Image) (code : Code) (u v : Hart) (e r : Option CpuEnd) (cpu : CpuState) (tapes : Tapes) (n : ℕ) → e ≡ None → view_of code u e ≡ cpu → IsOf image cpu → Runs (code_run code n (state_of u)) r (state_of v) → stands (view_of code v r) tapes ≡ on_state (stands cpu tapes) (run image n)
 run_stands image code u v e r cpu tapes n none is of h =
-    run_taped tapes (run (image_of code) n (state_of u)) r (state_of v) h ∙ stood image code u e cpu tapes n none is of
+    run_taped tapes (code_run code n (state_of u)) r (state_of v) h ∙ stood image code u e cpu tapes n none is of
 
 end_taped : (tapes : Tapes) (o : Outcome) (r : Option CpuEnd) (t : State) → Runs o r t → end_of (taped_outcome tapes o) ≡ Some (unwrap_or r Runaway)
 end_taped tapes (On v) None t h = refl
@@ -81,9 +81,9 @@ end_taped tapes (Ended e v) None t h = absurd h
 end_taped tapes (Ended e v) (Some d) t h = h.0
 
 -- and its end
-pub run_end : (image : Image) (code : Code) (u v : Hart) (e r : Option CpuEnd) (cpu : CpuState) (tapes : Tapes) (n : ℕ) → e ≡ None → view_of code u e ≡ cpu → IsOf image cpu → Runs (run (image_of code) n (state_of u)) r (state_of v) → end_of (on_state (stands cpu tapes) (run image n)) ≡ Some (unwrap_or r Runaway)
+pub run_end : (image : Image) (code : Code) (u v : Hart) (e r : Option CpuEnd) (cpu : CpuState) (tapes : Tapes) (n : ℕ) → e ≡ None → view_of code u e ≡ cpu → IsOf image cpu → Runs (code_run code n (state_of u)) r (state_of v) → end_of (on_state (stands cpu tapes) (run image n)) ≡ Some (unwrap_or r Runaway)
 run_end image code u v e r cpu tapes n none is of h =
-    ap end_of (sym (stood image code u e cpu tapes n none is of)) ∙ end_taped tapes (run (image_of code) n (state_of u)) r (state_of v) h
+    ap end_of (sym (stood image code u e cpu tapes n none is of)) ∙ end_taped tapes (code_run code n (state_of u)) r (state_of v) h
 
 -- ---- the statement that is met
 

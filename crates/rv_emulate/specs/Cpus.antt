@@ -1,6 +1,8 @@
 -- What contracts see of a Cpu.
 use Rattle.std.specs.Prelude.{◌≡◌, ℕ, List, map, Option, Some, None}
 use Rattle.sil_base.specs.Tapes.{Tapes}
+use Rattle.rv_isa.specs.declared.instr.Instr.{Instr}
+use Rattle.rv_isa.specs.Decoded.{decoded}
 use Rattle.image_file.specs.Image.{Image}
 use Rattle.rv_emulate.specs.declared.end.CpuEnd.{CpuEnd}
 use Rattle.rv_emulate.specs.declared.end.CpuStep.{CpuStep}
@@ -8,9 +10,9 @@ use Rattle.rv_emulate.specs.declared.end.CpuStep.TheVariants as steps
 use Rattle.rv_emulate.specs.Memory.{Memory}
 use Rattle.rv_emulate.specs.States.{State, Outcome, On, Ended}
 
--- the words, the constants and the statements' places of its image; the place of the next instruction, the registers and the memory; and how its run has ended, if it has
+-- the instructions of its image's words, none where a word is no instruction, its constants, and its statements' places; the place of the next instruction, the registers and the memory; and how its run has ended, if it has
 pub record CpuState : Type 0 where
-  pub words : List ℕ
+  pub code : List (Option Instr)
   pub constants : List ℕ
   pub places : List ℕ
   pub pc : ℕ
@@ -20,11 +22,11 @@ pub record CpuState : Type 0 where
 
 -- it runs this image
 pub record IsOf (image : Image) (cpu : CpuState) : Type 0 where
-  pub words : cpu.words ≡ image.words
+  pub code : cpu.code ≡ map decoded image.words
   pub constants : cpu.constants ≡ image.constants
   pub places : cpu.places ≡ map (λ e. e.place) image.statements
 
--- the state that it is in, with the tapes of its units; no unit call is made yet, so none has failed
+-- the state that it is in, with the tapes of its units; no unit is there, so no call of one has failed
 abbrev pub state : CpuState → Tapes → State
 state cpu tapes = record { pc = cpu.pc; registers = cpu.registers; memory = cpu.memory; tapes = tapes; failed = None }
 
@@ -38,7 +40,7 @@ stands cpu tapes = stands_with cpu.ended (state cpu tapes)
 
 -- it runs the same image
 pub record SameImage (old new : CpuState) : Type 0 where
-  pub words : new.words ≡ old.words
+  pub code : new.code ≡ old.code
   pub constants : new.constants ≡ old.constants
   pub places : new.places ≡ old.places
 

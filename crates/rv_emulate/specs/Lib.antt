@@ -1,5 +1,8 @@
 pub mod Memory
 pub mod States
+pub mod Ranges
+pub mod Values
+pub mod Calls
 pub mod Steps
 pub mod Runs
 pub mod Ways

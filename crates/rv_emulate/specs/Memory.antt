@@ -1,5 +1,5 @@
 -- The regions of the emulator's memory, and loads and stores.
-use Rattle.std.specs.Prelude.{ℕ, ◌+◌, ◌-◌, ◌%◌, Bool, ◌&&◌, ◌==◌, nat_le, List, length, Option, Some, None, option_map, if◌then◌else◌}
+use Rattle.std.specs.Prelude.{ℕ, ◌+◌, ◌-◌, ◌%◌, Bool, ◌&&◌, ◌||◌, ◌==◌, nat_le, List, length, Option, Some, None, option_map, if◌then◌else◌}
 use Rattle.sil_base.specs.Bytes.{number, low_bytes, piece, with_piece}
 
 -- the regions that a store may change: the cells, their kinds, the tables, and the scratch bytes
@@ -54,3 +54,12 @@ stored m n address v =
     if address % n == 0
     then or_else (option_map (λ b. record m { cells = b }) (store_into cells_place m.cells n address v)) (or_else (option_map (λ b. record m { kinds = b }) (store_into kinds_place m.kinds n address v)) (or_else (option_map (λ b. record m { tables = b }) (store_into tables_place m.tables n address v)) (option_map (λ b. record m { scratch = b }) (store_into scratch_place m.scratch n address v))))
     else None
+
+-- n bytes at an address lie in one region that can be stored to, as no bytes do anywhere
+unfoldable pub can_store : Memory → ℕ → ℕ → Bool
+can_store m n address =
+    (n == 0) || holds cells_place m.cells n address || holds kinds_place m.kinds n address || holds tables_place m.tables n address || holds scratch_place m.scratch n address
+
+-- n bytes at an address lie in one region that can be loaded from, as no bytes do anywhere
+unfoldable pub can_load : List ℕ → Memory → ℕ → ℕ → Bool
+can_load constants m n address = can_store m n address || holds constants_place constants n address

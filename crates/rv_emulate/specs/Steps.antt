@@ -1,13 +1,8 @@
--- What an instruction does, by the RISC-V unprivileged manual (RV64I).
-use Rattle.std.specs.Prelude.{ℕ, ◌+◌, ◌-◌, ◌*◌, ◌/◌, ◌%◌, ◌^◌, ℤ, Bool, not, ◌&&◌, ◌==◌, nat_lt, nat_le, List, length, Option, Some, None, if◌then◌else◌, slice_get}
-use Rattle.rv_isa.specs.declared.instr.ROp.{ROp}
-use Rattle.rv_isa.specs.declared.instr.ROp.TheVariants.{Add, Sltu}
+-- What an instruction does, by the RISC-V unprivileged manual (RV64I and M).
+use Rattle.std.specs.Prelude.{ℕ, ◌+◌, ◌-◌, ◌*◌, ◌/◌, ◌%◌, ◌^◌, ℤ, ◌&&◌, ◌==◌, nat_le, List, length, Option, Some, None, option_map, if◌then◌else◌, slice_get}
+use Rattle.rv_isa.specs.declared.instr.ROp.TheVariants as r
 use Rattle.rv_isa.specs.declared.instr.IOp.{IOp}
-use Rattle.rv_isa.specs.declared.instr.IOp.TheVariants.{Addi, Ld, Lbu, Lhu, Lwu}
-use Rattle.rv_isa.specs.declared.instr.SOp.{SOp}
-use Rattle.rv_isa.specs.declared.instr.SOp.TheVariants.{Sb, Sh, Sw, Sd}
-use Rattle.rv_isa.specs.declared.instr.BOp.{BOp}
-use Rattle.rv_isa.specs.declared.instr.BOp.TheVariants.{Beq, Bne}
+use Rattle.rv_isa.specs.declared.instr.IOp.TheVariants.{Addi, Slti, Sltiu, Xori, Ori, Andi, Slli, Srli, Srai, Lb, Lh, Lw, Ld, Lbu, Lhu, Lwu, Jalr, Addiw, Slliw, Srliw, Sraiw, Fence}
 use Rattle.rv_isa.specs.declared.instr.UOp.TheVariants.{Lui, Auipc}
 use Rattle.rv_isa.specs.declared.instr.Instr.{Instr}
 use Rattle.rv_isa.specs.declared.instr.Instr.TheVariants.{R, I, S, B, U, J, Ecall}
@@ -15,38 +10,18 @@ use Rattle.rv_isa.specs.Words.{twos}
 use Rattle.rv_isa.specs.Decoded.{decoded}
 use Rattle.image_file.specs.Image.{Image, first_place}
 use Rattle.rv_emulate.specs.declared.end.CpuEnd.{CpuEnd}
-use Rattle.rv_emulate.specs.declared.end.CpuEnd.TheVariants.{Exit, Trap, Undefined, Budget, UnitFault, Illegal, Fetch, Load, Store, BadCall}
+use Rattle.rv_emulate.specs.declared.end.CpuEnd.TheVariants.{Illegal, Fetch, Load, Store}
 use Rattle.rv_emulate.specs.Memory.{Memory, loaded, stored}
 use Rattle.rv_emulate.specs.States.{State, Outcome, On, Ended, register, with_register, statement_number}
-
--- ---- values
-
-abbrev pub sum64 : ℕ → ℕ → ℕ
-sum64 x y = (x + y) % 2 ^ 64
-
--- 32 bits, extended by their sign to 64
-abbrev pub extended : ℕ → ℕ
-extended n = if nat_lt n (2 ^ 31) then n else n + (2 ^ 64 - 2 ^ 32)
-
-abbrev pub r_value : ROp → ℕ → ℕ → ℕ
-r_value Add x y = sum64 x y
-r_value Sltu x y = if nat_lt x y then 1 else 0
-
-abbrev pub taken : BOp → ℕ → ℕ → Bool
-taken Beq x y = x == y
-taken Bne x y = not (x == y)
-
--- the bytes that a store writes
-abbrev pub s_width : SOp → ℕ
-s_width Sb = 1
-s_width Sh = 2
-s_width Sw = 4
-s_width Sd = 8
-
--- ---- steps
+use Rattle.rv_emulate.specs.Calls.{call, is_unit_call, absent}
+pub use Rattle.rv_emulate.specs.Values.{sum64, extended_from, extended, r_value, taken, s_width}
 
 abbrev pub ends_with : CpuEnd → State → Outcome
 ends_with end s = Ended (Some end) s.tapes
+
+-- to the next place
+abbrev pub next : State → Outcome
+next s = On (record s { pc = s.pc + 4 })
 
 -- to the next place, with v in the register rd
 abbrev pub next_with : State → ℕ → ℕ → Outcome
@@ -64,35 +39,49 @@ abbrev pub store_step : State → Option Memory → Outcome
 store_step s None = ends_with (Store s.pc) s
 store_step s (Some m) = On (record s { pc = s.pc + 4; memory = m })
 
--- an instruction of format I, with x in its source register
+-- n bytes from an address go to the register rd
+abbrev pub loads : Image → State → ℕ → ℕ → ℕ → Outcome
+loads image s rd n address = load_step s rd (loaded image.constants s.memory n address)
+
+-- n bytes from an address, extended by their sign, go to the register rd
+abbrev pub loads_signed : Image → State → ℕ → ℕ → ℕ → Outcome
+loads_signed image s rd n address = load_step s rd (option_map (extended_from (8 * n)) (loaded image.constants s.memory n address))
+
+-- an instruction of format I, with x in its source register: one with an immediate in the place of a second register, a load, JALR, or FENCE, which does nothing
 abbrev pub i_step : Image → IOp → State → ℕ → ℕ → ℤ → Outcome
 i_step image Addi s rd x imm = next_with s rd (sum64 x (twos 64 imm))
-i_step image Ld s rd x imm = load_step s rd (loaded image.constants s.memory 8 (sum64 x (twos 64 imm)))
-i_step image Lbu s rd x imm = load_step s rd (loaded image.constants s.memory 1 (sum64 x (twos 64 imm)))
-i_step image Lhu s rd x imm = load_step s rd (loaded image.constants s.memory 2 (sum64 x (twos 64 imm)))
-i_step image Lwu s rd x imm = load_step s rd (loaded image.constants s.memory 4 (sum64 x (twos 64 imm)))
+i_step image Slti s rd x imm = next_with s rd (r_value r.Slt x (twos 64 imm))
+i_step image Sltiu s rd x imm = next_with s rd (r_value r.Sltu x (twos 64 imm))
+i_step image Xori s rd x imm = next_with s rd (r_value r.Xor x (twos 64 imm))
+i_step image Ori s rd x imm = next_with s rd (r_value r.Or x (twos 64 imm))
+i_step image Andi s rd x imm = next_with s rd (r_value r.And x (twos 64 imm))
+i_step image Slli s rd x imm = next_with s rd (r_value r.Sll x (twos 64 imm))
+i_step image Srli s rd x imm = next_with s rd (r_value r.Srl x (twos 64 imm))
+i_step image Srai s rd x imm = next_with s rd (r_value r.Sra x (twos 64 imm))
+i_step image Addiw s rd x imm = next_with s rd (r_value r.Addw x (twos 64 imm))
+i_step image Slliw s rd x imm = next_with s rd (r_value r.Sllw x (twos 64 imm))
+i_step image Srliw s rd x imm = next_with s rd (r_value r.Srlw x (twos 64 imm))
+i_step image Sraiw s rd x imm = next_with s rd (r_value r.Sraw x (twos 64 imm))
+i_step image Lb s rd x imm = loads_signed image s rd 1 (sum64 x (twos 64 imm))
+i_step image Lh s rd x imm = loads_signed image s rd 2 (sum64 x (twos 64 imm))
+i_step image Lw s rd x imm = loads_signed image s rd 4 (sum64 x (twos 64 imm))
+i_step image Ld s rd x imm = loads image s rd 8 (sum64 x (twos 64 imm))
+i_step image Lbu s rd x imm = loads image s rd 1 (sum64 x (twos 64 imm))
+i_step image Lhu s rd x imm = loads image s rd 2 (sum64 x (twos 64 imm))
+i_step image Lwu s rd x imm = loads image s rd 4 (sum64 x (twos 64 imm))
+i_step image Jalr s rd x imm = jump s rd (sum64 x (twos 64 imm) / 2 * 2)
+i_step image Fence s rd x imm = next s
 
--- the end at a statement where the last unit call failed
-abbrev pub unit_fault : ℕ → Option ℕ → ℕ → CpuEnd
-unit_fault statement (Some unit) pc = UnitFault statement unit
-unit_fault statement None pc = BadCall pc
+-- the answer of a call on a unit
+abbrev pub answer : State → Outcome
+answer s = On (record s { pc = s.pc + 4; registers = with_register s.registers 10 absent; failed = None })
 
--- the end that the number in a0 asks for
-abbrev pub end_by : ℕ → ℕ → Option ℕ → ℕ → CpuEnd
-end_by a0 statement failed pc =
-    if nat_lt a0 2 then Exit a0
-    else if a0 == 2 then Trap statement
-    else if a0 == 3 then Undefined statement
-    else if a0 == 4 then Budget
-    else if a0 == 5 then unit_fault statement failed pc
-    else BadCall pc
-
--- ECALL with the call's number in a7: call 1 ends the run, at a statement or at the place after the last; there is no other call yet
-abbrev pub call : ℕ → ℕ → ℕ → ℕ → Option ℕ → ℕ → CpuEnd
-call count a7 a0 statement failed pc = if (a7 == 1) && nat_le statement count then end_by a0 statement failed pc else BadCall pc
+-- the end by any other call
+abbrev pub ended : Image → State → Outcome
+ended image s = ends_with (call (length image.statements) (register s.registers 17) (register s.registers 10) (statement_number s) s.failed s.pc) s
 
 abbrev pub ecall : Image → State → Outcome
-ecall image s = ends_with (call (length image.statements) (register s.registers 17) (register s.registers 10) (statement_number s) s.failed s.pc) s
+ecall image s = if is_unit_call image.constants s.memory s.registers then answer s else ended image s
 
 abbrev pub act : Image → Instr → State → Outcome
 act image (R op rd rs1 rs2) s = next_with s rd (r_value op (register s.registers rs1) (register s.registers rs2))

@@ -1,22 +1,12 @@
 // Loads and stores.
 
-ghost use Rattle.std.specs.Prelude.{◌≡◌, ◌==◌, ◌%◌, ◌+◌, ◌<◌, ◌≤◌, ◌^◌, ◌⊎◌, length};
+ghost use Rattle.std.specs.Prelude.{◌≡◌, ◌==◌, ◌%◌, ◌+◌, ◌<◌, ◌≤◌, ◌^◌, ◌⊎◌, IfSome, length};
 ghost use Rattle.sil_base.specs.Bytes.{with_piece, low_bytes};
-ghost use Rattle.rv_emulate.specs.Memory.{load_from, loaded, store_into, stored};
+ghost use Rattle.rv_emulate.specs.Memory.{holds, load_from, loaded, store_into, stored};
 ghost use Rattle.rv_emulate.specs.View.{Puts, memory_of};
 
 use crate::bytes::number_of;
-use crate::memory::Regions;
-
-const CELLS: u64 = 0x4000_0000;
-
-const KINDS: u64 = 0x5000_0000;
-
-const TABLES: u64 = 0x6000_0000;
-
-const CONSTANTS: u64 = 0x6800_0000;
-
-const SCRATCH: u64 = 0x6C00_0000;
+use crate::memory::{CELLS, CONSTANTS, KINDS, Regions, SCRATCH, TABLES, holds};
 
 fn is_aligned(width: usize, address: u64) -> bool
     requires { (width ≡ 1) ⊎ (width ≡ 2) ⊎ (width ≡ 4) ⊎ (width ≡ 8) }
@@ -28,16 +18,13 @@ fn is_aligned(width: usize, address: u64) -> bool
 /// The number in `width` bytes at an address, where the region holds them.
 fn number_in(first: u64, bytes: &[u8], width: usize, address: u64) -> Option<u64>
     requires width { (width ≡ 1) ⊎ (width ≡ 2) ⊎ (width ≡ 4) ⊎ (width ≡ 8) }
-    requires room { first + length bytes.now < 2 ^ 63 }
-    ensures { result ≡ load_from first bytes.now width address }
+    ensures number { result ≡ load_from first bytes.now width address }
+    ensures small { IfSome result (λ n. n < 256 ^ width) }
 {
-    if address < first {
+    if !holds(first, bytes, width as u64, address) {
         return None;
     }
     let at = (address - first) as usize;
-    if at > bytes.len() || bytes.len() - at < width {
-        return None;
-    }
     Some(number_of(&bytes[at..at + width]))
 }
 
@@ -54,26 +41,21 @@ fn put(bytes: &mut [u8], at: usize, width: usize, value: u64)
 /// Puts the `width` lowest bytes of a number at an address, where the region holds them.
 fn put_in(first: u64, bytes: &mut [u8], width: usize, address: u64, value: u64) -> bool
     requires width { (width ≡ 1) ⊎ (width ≡ 2) ⊎ (width ≡ 4) ⊎ (width ≡ 8) }
-    requires room { first + length bytes.old < 2 ^ 63 }
     ensures { Puts result (store_into first bytes.old width address value) bytes.old bytes.new }
 {
-    if address < first {
+    if !holds(first, bytes, width as u64, address) {
         return false;
     }
-    let at = (address - first) as usize;
-    if at > bytes.len() || bytes.len() - at < width {
-        return false;
-    }
-    put(bytes, at, width, value);
+    put(bytes, (address - first) as usize, width, value);
     true
 }
 
 /// The number in `width` bytes at an address; none where it is misaligned, or no region holds it.
 #[tactic(auto, unfolding(crate::specs::Memory::loaded))]
 pub(crate) fn load(constants: &[u8], regions: &Regions, width: usize, address: u64) -> Option<u64>
-    requires width { (width ≡ 1) ⊎ (width ≡ 2) ⊎ (width ≡ 4) ⊎ (width ≡ 8) }
-    requires few { length constants.now < 2 ^ 28 }
-    ensures { result ≡ loaded constants.now (memory_of regions.now) width address }
+    requires { (width ≡ 1) ⊎ (width ≡ 2) ⊎ (width ≡ 4) ⊎ (width ≡ 8) }
+    ensures number { result ≡ loaded constants.now (memory_of regions.now) width address }
+    ensures small { IfSome result (λ n. n < 256 ^ width) }
 {
     if !is_aligned(width, address) {
         return None;

@@ -1,12 +1,13 @@
 // Numbers in bytes, the lowest first.
 
-ghost use Rattle.std.specs.Prelude.{◌≡◌, ◌⊎◌, length};
+ghost use Rattle.std.specs.Prelude.{◌≡◌, ◌⊎◌, ◌<◌, ◌^◌, length};
 ghost use Rattle.sil_base.specs.Bytes.{number};
 
 /// The number in 1, 2, 4 or 8 bytes.
 pub(crate) fn number_of(bytes: &[u8]) -> u64
     requires { (length bytes.now ≡ 1) ⊎ (length bytes.now ≡ 2) ⊎ (length bytes.now ≡ 4) ⊎ (length bytes.now ≡ 8) }
-    ensures { result ≡ number bytes.now }
+    ensures same { result ≡ number bytes.now }
+    ensures small { result < 256 ^ length bytes.now }
 {
     match bytes {
         [a] => u64::from(*a),

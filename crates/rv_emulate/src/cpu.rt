@@ -5,6 +5,7 @@ ghost use Rattle.std.specs.List.{position_from};
 ghost use Rattle.sil_base.specs.Tapes.{Tapes};
 ghost use Rattle.sil_base.specs.Units.{tapes_of};
 ghost use Rattle.image_file.specs.Image.{Image};
+ghost use Rattle.rv_emulate.specs.Ranges.{Rises};
 ghost use Rattle.rv_emulate.specs.Steps.{step};
 ghost use Rattle.rv_emulate.specs.Runs.{run, on_state, end_of, met_now};
 ghost use Rattle.rv_emulate.specs.Cpus.{IsOf, SameImage, IfEnded, stands, state, answer_of};
@@ -79,17 +80,19 @@ impl Cpu {
 
 /// The number of the statement whose code begins at this place.
 fn statement_at(places: &[u64], pc: u64) -> Option<u32>
-    requires { length places.now < 2 ^ 28 }
+    requires few { length places.now < 2 ^ 28 }
+    requires rising { Rises places.now }
     ensures { result ≡ position_from (λ place. pc == place) 0 places.now }
 {
     let k = index_of(places, pc)?;
     Some(k as u32)
 }
 
-/// Where this place stands first.
+/// Where this place stands.
 fn index_of(places: &[u64], pc: u64) -> Option<usize>
+    requires { Rises places.now }
     ensures same { result ≡ position_from (λ place. pc == place) 0 places.now }
     ensures within { IfSome result (λ k. k < length places.now) }
 {
-    places.iter().position(|place| pc == *place)
+    places.binary_search(&pc).ok()
 }

@@ -3,6 +3,7 @@
 
 mod access;
 mod bytes;
+mod calls;
 mod code;
 mod cpu;
 mod end;

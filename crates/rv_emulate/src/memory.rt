@@ -1,6 +1,17 @@
 // The regions of memory.
 
-ghost use Rattle.std.specs.Prelude.{◌<◌, ◌^◌, length};
+ghost use Rattle.std.specs.Prelude.{◌≡◌, ◌<◌, ◌^◌, length};
+ghost use Rattle.rv_emulate.specs.Memory.{holds};
+
+pub(crate) const CELLS: u64 = 0x4000_0000;
+
+pub(crate) const KINDS: u64 = 0x5000_0000;
+
+pub(crate) const TABLES: u64 = 0x6000_0000;
+
+pub(crate) const CONSTANTS: u64 = 0x6800_0000;
+
+pub(crate) const SCRATCH: u64 = 0x6C00_0000;
 
 /// The regions that a store may change.
 #[derive(Drop)]
@@ -9,8 +20,12 @@ pub(crate) struct Regions {
     pub(crate) kinds: Vec<u8>,
     pub(crate) tables: Vec<u8>,
     pub(crate) scratch: Vec<u8>,
-    ghost few_cells: { length cells.items < 2 ^ 28 },
-    ghost few_kinds: { length kinds.items < 2 ^ 28 },
-    ghost few_tables: { length tables.items < 2 ^ 28 },
-    ghost few_scratch: { length scratch.items < 2 ^ 28 },
+}
+
+/// Whether `n` bytes at an address lie in the region of these bytes, whose first place is `first`.
+pub(crate) fn holds(first: u64, bytes: &[u8], n: u64, address: u64) -> bool
+    ensures { result ≡ holds first bytes.now n address }
+{
+    let len = bytes.len() as u64;
+    first <= address && address - first <= len && n <= len - (address - first)
 }

@@ -1,7 +1,6 @@
 // Instructions one after another.
 
-ghost use Rattle.rv_emulate.specs.Runs.{run};
-ghost use Rattle.rv_emulate.specs.View.{image_of, state_of, Runs};
+ghost use Rattle.rv_emulate.specs.View.{code_run, state_of, Runs};
 
 use crate::code::Code;
 use crate::end::{CpuEnd, CpuStep};
@@ -10,7 +9,7 @@ use crate::hart::Hart;
 impl Hart {
     /// Makes at most `budget` steps: the end, or none where there was none.
     pub(crate) fn run(&mut self, code: &Code, budget: u128) -> Option<CpuEnd>
-        ensures { Runs (run (image_of code.now) budget (state_of self.old)) result (state_of self.new) }
+        ensures { Runs (code_run code.now budget (state_of self.old)) result (state_of self.new) }
     {
         for turn in 0..budget {
             match self.step(code) {

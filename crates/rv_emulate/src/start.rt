@@ -2,6 +2,7 @@
 
 ghost use Rattle.std.specs.Prelude.{◌≡◌, ◌+◌, ◌-◌, ◌*◌, ◌/◌, ◌<◌, ◌≤◌, ◌^◌, ◌++◌, IfOk, length, map, replicate, slice_index};
 ghost use Rattle.sil_base.specs.Tapes.{Tapes};
+ghost use Rattle.rv_isa.specs.Decoded.{decoded};
 ghost use Rattle.image_file.specs.Image.{IsImage};
 ghost use Rattle.rv_emulate.specs.States.{On, cell_total, first_memory, first_registers, padded, start};
 ghost use Rattle.rv_emulate.specs.Runs.{budget, budget_of};
@@ -14,6 +15,7 @@ use crate::hart::Hart;
 use crate::memory::Regions;
 use image_file::Image;
 use layout_params::Layout;
+use rv_isa::{Instr, decode};
 use std::alloc::{AllocError, Global};
 
 const SCRATCH_SIZE: usize = 65536;
@@ -77,7 +79,6 @@ fn first_memory(alloc: Global, image: &Image) -> Result<Regions, AllocError>
 
 /// The first memory, with these scratch bytes.
 fn regions(alloc: Global, image: &Image, scratch: Vec<u8>) -> Result<Regions, AllocError>
-    requires { length scratch.items < 2 ^ 28 }
     ensures { IfOk result (λ regions. memory_of regions ≡ record (first_memory image.now) { scratch = scratch.items }) }
 {
     let cells = first_cells(alloc, image)?;
@@ -134,18 +135,25 @@ fn zeros(alloc: Global, size: usize) -> Result<Vec<u8>, AllocError>
     vec![in alloc; 0; size]
 }
 
-/// What a run reads of the image, copied.
+/// What a run reads of the image: its words are decoded, and the rest is copied.
 fn code_of(alloc: Global, image: &Image) -> Result<Code, AllocError>
-    ensures words { IfOk result (λ code. code.words.items ≡ image.now.words) }
+    ensures code { IfOk result (λ code. code.instrs.items ≡ map decoded image.now.words) }
     ensures constants { IfOk result (λ code. code.constants.items ≡ image.now.constants) }
     ensures places { IfOk result (λ code. code.places.items ≡ map (λ e. e.place) image.now.statements) }
 {
     let _ = image.numbers();
     Ok(Code {
-        words: Vec::from_slice(alloc, image.words())?,
+        instrs: instrs(alloc, image.words())?,
         constants: Vec::from_slice(alloc, image.constants())?,
         places: places(alloc, image)?,
     })
+}
+
+/// The instruction of each word.
+fn instrs(alloc: Global, words: &[u32]) -> Result<Vec<Option<Instr>>, AllocError>
+    ensures { IfOk result (λ v. v.items ≡ map decoded words.now) }
+{
+    words.iter().map(|word| decode(*word)).collect(alloc)
 }
 
 /// The places of the statements.

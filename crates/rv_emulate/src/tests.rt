@@ -2,28 +2,36 @@ ghost use Rattle.std.specs.Prelude.{◌≡◌, ◌≤◌, ◌^◌, Some, IfOk};
 ghost use Rattle.sil_base.specs.Tapes.{no_tapes};
 ghost use Rattle.rv_emulate.specs.Runs.{emulation};
 
+mod calls;
+mod places;
+mod rows;
+
 use super::*;
 use image_file::Image;
-use layout_params::Params;
+use layout_params::{ParamStop, STANDARD_PARAMS, read_params};
 use sil_base::Units;
-use sil_model::Macro;
+use sil_macros::Macro;
 use std::alloc::{AllocError, Global};
 use std::test::Fail;
 
-/// An image of these words and eight constants, whose one statement is at the first of the words.
-fn image_of(alloc: Global, words: &[u32]) -> Result<Option<Image>, AllocError> {
+/// An image of these words, nine constants and a table, whose one statement is at the first of the
+/// words.
+fn image_of(alloc: Global, words: &[u32]) -> Result<Option<Image>, ParamStop> {
     Ok(Image::new(
-        &Params::standard(),
+        &read_params(alloc, STANDARD_PARAMS)?,
         Vec::from_slice(alloc, &[(0x1_0000, 1, Macro::Endex)])?,
         Vec::from_slice(alloc, words)?,
-        Vec::from_slice(alloc, &[1u8, 2, 3, 4, 5, 6, 7, 8])?,
+        Vec::from_slice(
+            alloc,
+            &[0x80u8, 0x81, 0x82, 0x83, 0x84, 0x85, 0x86, 0x87, 2],
+        )?,
         Vec::new(alloc),
         Vec::new(alloc),
-        Vec::new(alloc),
+        vec![in alloc; 0u8; 4096]?,
     ))
 }
 
-fn cpu_of(alloc: Global, words: &[u32]) -> Result<Option<Cpu>, AllocError> {
+fn cpu_of(alloc: Global, words: &[u32]) -> Result<Option<Cpu>, ParamStop> {
     let Some(image) = image_of(alloc, words)? else {
         return Ok(None);
     };
@@ -42,7 +50,7 @@ fn emulate(alloc: Global, image: &Image, n: u64, budget: u128) -> Result<CpuEnd,
 }
 
 /// How a run of these words ends within ten instructions.
-fn end_of(alloc: Global, words: &[u32]) -> Result<Option<CpuEnd>, AllocError> {
+fn end_of(alloc: Global, words: &[u32]) -> Result<Option<CpuEnd>, ParamStop> {
     let Some(image) = image_of(alloc, words)? else {
         return Ok(None);
     };
@@ -54,7 +62,7 @@ fn calls_end_runs(rt: HostRuntime) -> Result<(), Fail> {
     let alloc = rt.alloc();
     let exit = [0x0010_0513, 0x0010_0893, 0x0000_0073];
     assert_eq!(rt; end_of(alloc, &exit)?, Some(CpuEnd::Exit(1)));
-    let trap_by_a_constant = [0x6800_02b7, 0x0012_c503, 0x0010_0893, 0x0000_0073];
+    let trap_by_a_constant = [0x6800_02b7, 0x0082_c503, 0x0010_0893, 0x0000_0073];
     assert_eq!(rt; end_of(alloc, &trap_by_a_constant)?, Some(CpuEnd::Trap(0)));
     let unknown_call = [0x0090_0893, 0x0000_0073];
     assert_eq!(rt;
@@ -124,5 +132,35 @@ fn budgets_count_cells_and_statements(rt: HostRuntime) -> Result<(), Fail> {
         return Ok(());
     };
     assert_eq!(rt; budget(&image, 1), 11_780_000);
+    Ok(())
+}
+
+#[test]
+fn a_statement_is_met_at_its_place(rt: HostRuntime) -> Result<(), Fail> {
+    let alloc = rt.alloc();
+    let image = Image::new(
+        &read_params(alloc, STANDARD_PARAMS)?,
+        Vec::from_slice(
+            alloc,
+            &[(0x1_0000, 1, Macro::Movd), (0x1_0008, 2, Macro::Endex)],
+        )?,
+        Vec::from_slice(alloc, &[0x0010_0893u32, 0x0000_0513, 0x0000_0073])?,
+        Vec::new(alloc),
+        Vec::new(alloc),
+        Vec::new(alloc),
+        Vec::new(alloc),
+    );
+    assert!(rt; image.is_some());
+    let Some(image) = image else {
+        return Ok(());
+    };
+    let mut cpu = Cpu::new(alloc, &image, 1)?;
+    let mut units = Units::new();
+    assert_eq!(rt; cpu.met(), Some(0));
+    assert_eq!(rt; cpu.step(&mut units), CpuStep::Next);
+    assert_eq!(rt; cpu.met(), None);
+    assert_eq!(rt; cpu.step(&mut units), CpuStep::Next);
+    assert_eq!(rt; cpu.met(), Some(1));
+    assert_eq!(rt; cpu.step(&mut units), CpuStep::Ended(CpuEnd::Exit(0)));
     Ok(())
 }

@@ -1,0 +1,83 @@
+// Calls, by their numbers in a7 and their operands in a0 to a5.
+
+ghost use Rattle.std.specs.Prelude.{◌≡◌, ◌<◌, ◌^◌, None, length};
+ghost use Rattle.rv_emulate.specs.States.{register};
+ghost use Rattle.rv_emulate.specs.Memory.{can_load, can_store};
+ghost use Rattle.rv_emulate.specs.Calls.{call, can_take, is_unit_call};
+ghost use Rattle.rv_emulate.specs.View.{memory_of};
+
+use crate::end::CpuEnd;
+use crate::hart::Hart;
+use crate::memory::{CELLS, CONSTANTS, KINDS, Regions, SCRATCH, TABLES, holds};
+
+/// The answer of a call on a unit that is absent.
+pub(crate) const ABSENT: u64 = 4;
+
+impl Hart {
+    /// Whether this is a call on a unit that can be made.
+    pub(crate) fn is_unit_call(&self, constants: &[u8]) -> bool
+        ensures { result ≡ is_unit_call constants.now (memory_of self.now.memory) self.now.registers }
+    {
+        let xs = &self.registers;
+        match xs[17] {
+            2 => can_store(&self.memory, xs[12], xs[11]),
+            3 => {
+                xs[12] <= 256
+                    && can_load(constants, &self.memory, xs[12], xs[11])
+                    && can_take(constants, &self.memory, xs[13], xs[14], xs[15])
+            }
+            4..=6 => true,
+            _ => false,
+        }
+    }
+
+    /// The end of any other call, under this number of statements.
+    pub(crate) fn end_of_call(&self, count: u64) -> CpuEnd
+        requires { count < 2 ^ 32 }
+        ensures { result ≡ call count (register self.now.registers 17) (register self.now.registers 10) (register self.now.registers 26) None self.now.pc }
+    {
+        let statement = self.registers[26];
+        if self.registers[17] != 1 || statement > count {
+            return CpuEnd::BadCall(self.pc);
+        }
+        match self.registers[10] {
+            0 => CpuEnd::Exit(0),
+            1 => CpuEnd::Exit(1),
+            2 => CpuEnd::Trap(statement as u32),
+            3 => CpuEnd::Undefined(statement as u32),
+            4 => CpuEnd::Budget,
+            _ => CpuEnd::BadCall(self.pc),
+        }
+    }
+}
+
+/// Whether `count` values are at this address: characters where `form` is 0, words where it is 1.
+fn can_take(constants: &[u8], regions: &Regions, address: u64, count: u64, form: u64) -> bool
+    ensures { result ≡ can_take constants.now (memory_of regions.now) address count form }
+{
+    match form {
+        0 => count <= 65536 && can_load(constants, regions, count, address),
+        1 => count <= 40 && address % 8 == 0 && can_load(constants, regions, 8 * count, address),
+        _ => false,
+    }
+}
+
+/// Whether one region that can be stored to holds so many bytes at an address; each holds none.
+#[tactic(auto, unfolding(crate::specs::Memory::can_store))]
+fn can_store(regions: &Regions, n: u64, address: u64) -> bool
+    ensures { result ≡ can_store (memory_of regions.now) n address }
+{
+    n == 0
+        || holds(CELLS, &regions.cells, n, address)
+        || holds(KINDS, &regions.kinds, n, address)
+        || holds(TABLES, &regions.tables, n, address)
+        || holds(SCRATCH, &regions.scratch, n, address)
+}
+
+/// Whether one region that can be loaded from holds so many bytes at an address; each holds none.
+#[tactic(auto, unfolding(crate::specs::Memory::can_load))]
+fn can_load(constants: &[u8], regions: &Regions, n: u64, address: u64) -> bool
+    ensures { result ≡ can_load constants.now (memory_of regions.now) n address }
+{
+    can_store(regions, n, address) || holds(CONSTANTS, constants, n, address)
+}
