@@ -8,6 +8,7 @@ use Rattle.rv_emit.specs.Code.{begin_code, check_code, exit_part, add_part, copy
 use Rattle.rv_emit.proofs.Begin.{begin_list, begin_is}
 use Rattle.rv_emit.proofs.Check.{check_list, check_is}
 use Rattle.rv_emit.proofs.Exits.{exit_list, exit_is}
+use Rattle.rv_emit.proofs.WideNumbers.{second_of, third_of, fourth_of, fourth_small}
 use Rattle.rv_emit.proofs.Adds.{add_list, add_is}
 use Rattle.rv_emit.proofs.Copies.{copy_list, copy_is}
 use Rattle.rv_emit.proofs.Past.{past_list, past_is}
@@ -61,12 +62,16 @@ exit_are at h =
     let l = lower_fits at in
     search rules
 
-pub add_are : (at n : ℕ) → IsAddress at → n < 2 ^ 31 - 2 ^ 11 → AreInstrs (add_list at n)
+pub add_are : (at n : ℕ) → IsAddress at → n < 2 ^ 64 → AreInstrs (add_list at n)
 add_are at n h small =
     let u = upper_fits at (omega (arith, h.1)) in
     let l = lower_fits at in
-    let u' = upper_fits n small in
-    let l' = lower_fits n in
+    let few = fourth_small n small in
+    let u' = upper_fits (fourth_of n) (omega (arith, few)) in
+    let l4 = lower_fits (fourth_of n) in
+    let l3 = lower_fits (third_of n) in
+    let l2 = lower_fits (second_of n) in
+    let l1 = lower_fits n in
     search rules
 
 pub copy_are : (to from : ℕ) → IsAddress to → IsAddress from → AreInstrs (copy_list to from (kind_place to))
@@ -94,7 +99,7 @@ check_fit at code e low high = subst (λ is. All IsInstr is) (sym (e ∙ check_i
 pub exit_fit : (at : ℕ) (code : List Instr) → code ≡ exit_part at → 0x4000_0000 ≤ at → at < 0x4000_0000 + 2 ^ 24 → All IsInstr code
 exit_fit at code e low high = subst (λ is. All IsInstr is) (sym (e ∙ exit_is at)) (each_of (exit_list at) (exit_are at (low, high)))
 
-pub add_fit : (at n : ℕ) (code : List Instr) → code ≡ add_part at n → 0x4000_0000 ≤ at → at < 0x4000_0000 + 2 ^ 24 → n < 2 ^ 31 - 2 ^ 11 → All IsInstr code
+pub add_fit : (at n : ℕ) (code : List Instr) → code ≡ add_part at n → 0x4000_0000 ≤ at → at < 0x4000_0000 + 2 ^ 24 → n < 2 ^ 64 → All IsInstr code
 add_fit at n code e low high small = subst (λ is. All IsInstr is) (sym (e ∙ add_is at n)) (each_of (add_list at n) (add_are at n (low, high) small))
 
 pub copy_fit : (to from : ℕ) (code : List Instr) → code ≡ copy_part to from → IsAddress to → IsAddress from → All IsInstr code

@@ -9,14 +9,14 @@ use Rattle.rv_isa.specs.declared.instr.Instr.TheVariants.{I, B, U, Ecall}
 use Rattle.image_file.specs.Image.{Image}
 use Rattle.rv_emulate.specs.declared.end.CpuEnd.TheVariants.{Budget}
 use Rattle.rv_emulate.specs.Memory.{Memory}
-use Rattle.rv_emulate.specs.States.{State, Outcome, On, Ended}
-use Rattle.rv_emulate.specs.Steps.{step, word_at, extended, sum64}
+use Rattle.rv_emulate.specs.States.{State, Outcome, Ended}
+use Rattle.rv_emulate.specs.Steps.{word_at, extended, sum64}
 use Rattle.rv_isa.specs.Words.{word_of}
 use Rattle.rv_emit.specs.Ways.{IsBetween, Comes}
 use Rattle.rv_emit.specs.Code.{upper_of, lower_of, begin_code}
 use Rattle.rv_emit.proofs.Words.{StandAt}
 use Rattle.rv_emit.proofs.Registers.{IsFile, file_set, same, other}
-use Rattle.rv_emit.proofs.Steps.{at, addi, lui, branch, ecall, ends_now, comes_after, budget_call, one_call, constant_is, upper_fits, lower_fits}
+use Rattle.rv_emit.proofs.Steps.{at, Goes, goes_to, addi, lui, branch, ecall, ends_now, comes_after, budget_call, one_call, constant_is, upper_fits, lower_fits}
 
 -- the same words, for proofs to see
 abbrev pub begin_list : ℕ → List Instr
@@ -79,14 +79,14 @@ module _ (image : Image) (last : ℕ) (s : State) (p k : ℕ) (body : List Instr
   left_kept : get_or xs2 27 0 ≡ left
   left_kept = other xs1 27 26 k (omega arith) ∙ other xs 27 26 upper (omega arith)
 
-  s0 : step image (t p xs) ≡ On (t (p + 4) xs1)
+  s0 : Goes image (t p xs) (t (p + 4) xs1)
   s0 = lui image s p xs m 26 (upper_of k) (omega arith, upper_fits k small) stand.0
 
-  s1 : step image (t (p + 4) xs1) ≡ On (t (p + 4 + 4) xs2)
+  s1 : Goes image (t (p + 4) xs1) (t (p + 4 + 4) xs2)
   s1 = addi image s (p + 4) xs1 m 26 26 upper k (lower_of k) (omega arith, omega arith, lower_fits k) stand.1.0 (same xs 26 upper file (omega arith)) (constant_is k small)
 
   -- no step is left
-  s2_none : left ≡ 0 → step image (t (p + 4 + 4) xs2) ≡ On (t (p + 4 + 4 + 4) xs2)
+  s2_none : left ≡ 0 → Goes image (t (p + 4 + 4) xs2) (t (p + 4 + 4 + 4) xs2)
   s2_none h =
       branch image s (p + 4 + 4) xs2 m Bne 27 0 left 0 (pos 16) false (omega arith, omega arith, omega arith, refl) stand.1.1.0 left_kept refl (equal_zero left h)
 
@@ -106,7 +106,7 @@ module _ (image : Image) (last : ℕ) (s : State) (p k : ℕ) (body : List Instr
       let r17 : get_or ys2 17 0 ≡ 1 = same ys1 17 1 f1 (omega arith) in
       let r10 : get_or ys2 10 0 ≡ 4 = other ys1 10 17 1 (omega arith) ∙ same xs2 10 4 file2 (omega arith) in
       let r26 : get_or ys2 26 0 ≡ k = other ys1 26 17 1 (omega arith) ∙ other xs2 26 10 4 (omega arith) ∙ same xs1 26 k file1 (omega arith) in
-      let c = ecall image s (q + 4 + 4) ys2 m 1 4 k Budget rest.1.1.0 r17 r10 r26 (budget_call (length image.statements) k s.failed (q + 4 + 4) few) in
+      let c = ecall image s (q + 4 + 4) ys2 m 4 k Budget rest.1.1.0 r17 r10 r26 (budget_call (length image.statements) k s.failed (q + 4 + 4) few) in
       let done : Outcome = Ended (Some Budget) s.tapes in
       comes_after image last 5 (t p xs) (t (p + 4) xs1) done s0 (inside (t (p + 4) xs1) (omega arith) (omega arith))
       (comes_after image last 4 (t (p + 4) xs1) (t (p + 4 + 4) xs2) done s1 (inside (t (p + 4 + 4) xs2) (omega arith) (omega arith))
@@ -116,10 +116,10 @@ module _ (image : Image) (last : ℕ) (s : State) (p k : ℕ) (body : List Instr
       (ends_now image last (t (q + 4 + 4) ys2) (Some Budget) s.tapes c (one_call image (t (q + 4 + 4) ys2) r17))))))
 
   -- steps are left: one is taken
-  s2 : 0 < left → step image (t (p + 4 + 4) xs2) ≡ On (t (p + 24) xs2)
+  s2 : 0 < left → Goes image (t (p + 4 + 4) xs2) (t (p + 24) xs2)
   s2 h =
       let to : sum64 (p + 4 + 4) 16 ≡ p + 24 = omega (arith, near) in
-      branch image s (p + 4 + 4) xs2 m Bne 27 0 left 0 (pos 16) true (omega arith, omega arith, omega arith, refl) stand.1.1.0 left_kept refl (not_zero left h) ∙ ap (λ q. On (t q xs2)) to
+      goes_to (branch image s (p + 4 + 4) xs2 m Bne 27 0 left 0 (pos 16) true (omega arith, omega arith, omega arith, refl) stand.1.1.0 left_kept refl (not_zero left h)) (ap (λ q. t q xs2) to)
 
   abbrev pub begun : List ℕ
   begun = set xs2 27 (left - 1)
@@ -127,13 +127,13 @@ module _ (image : Image) (last : ℕ) (s : State) (p k : ℕ) (body : List Instr
   left_small : left < 2 ^ 64
   left_small = file.small 27
 
-  s3 : 0 < left → step image (t (p + 24) xs2) ≡ On (t (p + 28) begun)
+  s3 : 0 < left → Goes image (t (p + 24) xs2) (t (p + 28) begun)
   s3 h =
       let far : p + 4 + 4 + 4 + 4 + 4 + 4 ≡ p + 24 = omega arith in
       let next : p + 24 + 4 ≡ p + 28 = omega arith in
       let less : sum64 left (2 ^ 64 - 1) ≡ left - 1 = omega (arith, left_small, h) in
       let word = subst (λ q. word_at image.words q ≡ Some (word_of (I Addi 27 27 (negsuc 0)))) far stand.1.1.1.1.1.1.0 in
-      addi image s (p + 24) xs2 m 27 27 left (left - 1) (negsuc 0) (omega arith, omega arith, omega arith) word left_kept less ∙ ap (λ q. On (t q begun)) next
+      goes_to (addi image s (p + 24) xs2 m 27 27 left (left - 1) (negsuc 0) (omega arith, omega arith, omega arith) word left_kept less) (ap (λ q. t q begun) next)
 
   pub begun_file : IsFile begun
   begun_file = file_set xs2 27 (left - 1) file2 (omega (arith, left_small))

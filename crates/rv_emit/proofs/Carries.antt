@@ -3,6 +3,7 @@ use Rattle.std.proofs.Common.{◌≡◌, ℕ, zero, suc, ◌+◌, ◌-◌, ◌*�
 use Rattle.std.proofs.lemmas.Option.{slice_get_within, get_or_from_slice_get}
 use Rattle.std.specs.Prelude.{pos, slice_get}
 use Rattle.std.proofs.lemmas.List.{length-map, length-replicate}
+use Rattle.std.specs.Int.{w64, cast_unsigned}
 use Rattle.std.specs.List.{flat_map}
 use Rattle.sil_base.specs.Bytes.{piece, AreBytes}
 use Rattle.sil_base.specs.Tapes.{Tapes}
@@ -25,8 +26,8 @@ use Rattle.layout_params.specs.declared.cell.Cell.{Cell}
 use Rattle.layout_params.specs.Sizes.{packed_16}
 use Rattle.layout_params.specs.Parameters.{Settings}
 use Rattle.sil_model.specs.declared.end.End.TheVariants as ends
-use Rattle.sil_model.specs.declared.macros.Macro.{Macro}
-use Rattle.sil_model.specs.declared.macros.Macro.TheVariants.{Endex, Incra, Movd}
+use Rattle.sil_macros.specs.declared.names.Macro.{Macro}
+use Rattle.sil_macros.specs.declared.names.Macro.TheVariants.{Endex, Incra, Movd}
 use Rattle.sil_model.specs.declared.program.Arg.{Arg}
 use Rattle.sil_model.specs.declared.program.Arg.TheVariants.{Place, Number}
 use Rattle.sil_model.specs.declared.program.Program.{Program}
@@ -142,11 +143,11 @@ module _ (program : Program) (settings : Settings) (can : CanEmit program settin
     by_macro card Incra (Place d ∷ Number number ∷ []) h is =
         let i : ℕ = h.0.0 in
         let a : ℕ = cell_address i in
-        let c : ℕ = h.1.0 in
-        let here = is ∙ ap (λ z. Some (incra_statement card z number)) h.0.2 ∙ ap (λ z. Some (incra_statement card (pos a) z)) h.1.2 in
+        let c : ℕ = cast_unsigned w64 number in
+        let here = is ∙ ap (λ z. Some (incra_statement card z number)) h.0.2 in
         let body = ap (λ is. is ++ add_part a c) (check_is a) ∙ ap (λ is. check_list (kind_place a) ++ is) (add_is a c) in
-        let made = incra_made card i c h.1.1 (turn (incra_statement card (pos a) (pos c)) i (add_list a c) here h.0.1 body (omega arith)) in
-        subst (λ z. Made (incra_statement card z number)) (sym h.0.2) (subst (λ z. Made (incra_statement card (pos a) z)) (sym h.1.2) made)
+        let made = incra_made card i number h.1 (turn (incra_statement card (pos a) number) i (add_list a c) here h.0.1 body (omega arith)) in
+        subst (λ z. Made (incra_statement card z number)) (sym h.0.2) made
     by_macro card Movd (Place to ∷ Place from ∷ []) h is =
         let i : ℕ = h.0.0 in
         let j : ℕ = h.1.0 in

@@ -9,13 +9,13 @@ use Rattle.rv_isa.specs.declared.instr.Instr.TheVariants.{I, B, U, Ecall}
 use Rattle.image_file.specs.Image.{Image}
 use Rattle.rv_emulate.specs.declared.end.CpuEnd.TheVariants.{Undefined}
 use Rattle.rv_emulate.specs.Memory.{Memory, loaded}
-use Rattle.rv_emulate.specs.States.{State, Outcome, On, Ended}
-use Rattle.rv_emulate.specs.Steps.{step, extended, sum64}
+use Rattle.rv_emulate.specs.States.{State, Outcome, Ended}
+use Rattle.rv_emulate.specs.Steps.{extended, sum64}
 use Rattle.rv_emit.specs.Ways.{Comes}
 use Rattle.rv_emit.specs.Code.{upper_of, lower_of, check_code, kind_place}
 use Rattle.rv_emit.proofs.Words.{StandAt}
 use Rattle.rv_emit.proofs.Registers.{IsFile, file_set, same, other}
-use Rattle.rv_emit.proofs.Steps.{at, addi, lui, lbu, branch, ecall, ends_now, comes_after, undefined_call, one_call, constant_is, upper_fits, lower_fits}
+use Rattle.rv_emit.proofs.Steps.{at, Goes, goes_to, addi, lui, lbu, branch, ecall, ends_now, comes_after, undefined_call, one_call, constant_is, upper_fits, lower_fits}
 use Rattle.rv_emit.proofs.Begin.{Inside, Kept}
 
 -- the same words, for proofs to see
@@ -65,13 +65,13 @@ module _ (image : Image) (last : ℕ) (s : State) (q k place kind : ℕ) (rest :
   kept : (r : ℕ) → 6 < r → get_or checked r 0 ≡ get_or xs r 0
   kept r h = other xs2 r 6 kind (omega arith) ∙ other xs1 r 5 place (omega arith) ∙ other xs r 5 upper (omega arith)
 
-  s0 : step image (t q xs) ≡ On (t (q + 4) xs1)
+  s0 : Goes image (t q xs) (t (q + 4) xs1)
   s0 = lui image s q xs m 5 (upper_of place) (omega arith, upper_fits place small) stand.0
 
-  s1 : step image (t (q + 4) xs1) ≡ On (t (q + 4 + 4) xs2)
+  s1 : Goes image (t (q + 4) xs1) (t (q + 4 + 4) xs2)
   s1 = addi image s (q + 4) xs1 m 5 5 upper place (lower_of place) (omega arith, omega arith, lower_fits place) stand.1.0 (same xs 5 upper file (omega arith)) (constant_is place small)
 
-  s2 : step image (t (q + 4 + 4) xs2) ≡ On (t (q + 4 + 4 + 4) checked)
+  s2 : Goes image (t (q + 4 + 4) xs2) (t (q + 4 + 4 + 4) checked)
   s2 = lbu image s (q + 4 + 4) xs2 m 6 5 place kind (omega arith, omega arith, omega arith) stand.1.1.0 (same xs1 5 place file1 (omega arith)) (omega arith) is_kind
 
   read_kind : get_or checked 6 0 ≡ kind
@@ -83,12 +83,12 @@ module _ (image : Image) (last : ℕ) (s : State) (q k place kind : ℕ) (rest :
   not_zero : (x : ℕ) → 0 < x → (x == 0) ≡ false
   not_zero x h = grind arith
 
-  s3_passes : kind ≡ 0 → step image (t (q + 4 + 4 + 4) checked) ≡ On (t (q + 28) checked)
+  s3_passes : kind ≡ 0 → Goes image (t (q + 4 + 4 + 4) checked) (t (q + 28) checked)
   s3_passes h =
       let to : sum64 (q + 4 + 4 + 4) 16 ≡ q + 28 = omega (arith, near) in
-      branch image s (q + 4 + 4 + 4) checked m Beq 6 0 kind 0 (pos 16) true (omega arith, omega arith, omega arith, refl) stand.1.1.1.0 read_kind refl (is_zero kind h) ∙ ap (λ w. On (t w checked)) to
+      goes_to (branch image s (q + 4 + 4 + 4) checked m Beq 6 0 kind 0 (pos 16) true (omega arith, omega arith, omega arith, refl) stand.1.1.1.0 read_kind refl (is_zero kind h)) (ap (λ w. t w checked) to)
 
-  s3_ends : 0 < kind → step image (t (q + 4 + 4 + 4) checked) ≡ On (t (q + 4 + 4 + 4 + 4) checked)
+  s3_ends : 0 < kind → Goes image (t (q + 4 + 4 + 4) checked) (t (q + 4 + 4 + 4 + 4) checked)
   s3_ends h =
       branch image s (q + 4 + 4 + 4) checked m Beq 6 0 kind 0 (pos 16) false (omega arith, omega arith, omega arith, refl) stand.1.1.1.0 read_kind refl (not_zero kind h)
 
@@ -120,7 +120,7 @@ module _ (image : Image) (last : ℕ) (s : State) (q k place kind : ℕ) (rest :
       let r17 : get_or ys2 17 0 ≡ 1 = same ys1 17 1 f1 (omega arith) in
       let r10 : get_or ys2 10 0 ≡ 3 = other ys1 10 17 1 (omega arith) ∙ same checked 10 3 file3 (omega arith) in
       let r26 : get_or ys2 26 0 ≡ k = other ys1 26 17 1 (omega arith) ∙ other checked 26 10 3 (omega arith) ∙ kept 26 (omega arith) ∙ statement in
-      let c = ecall image s (w + 4 + 4) ys2 m 1 3 k (Undefined k) more.1.1.0 r17 r10 r26 (undefined_call (length image.statements) k s.failed (w + 4 + 4) few) in
+      let c = ecall image s (w + 4 + 4) ys2 m 3 k (Undefined k) more.1.1.0 r17 r10 r26 (undefined_call (length image.statements) k s.failed (w + 4 + 4) few) in
       let done : Outcome = Ended (Some (Undefined k)) s.tapes in
       comes_after image last 6 (t q xs) (t (q + 4) xs1) done s0 (inside (t (q + 4) xs1) (omega arith) (omega arith))
       (comes_after image last 5 (t (q + 4) xs1) (t (q + 4 + 4) xs2) done s1 (inside (t (q + 4 + 4) xs2) (omega arith) (omega arith))

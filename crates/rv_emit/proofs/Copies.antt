@@ -9,12 +9,12 @@ use Rattle.rv_isa.specs.declared.instr.Instr.TheVariants.{I, S, U}
 use Rattle.image_file.specs.Image.{Image}
 use Rattle.rv_emulate.specs.Memory.{Memory, loaded, stored}
 use Rattle.rv_emulate.specs.States.{State, Outcome, On}
-use Rattle.rv_emulate.specs.Steps.{step, extended}
+use Rattle.rv_emulate.specs.Steps.{extended}
 use Rattle.rv_emit.specs.Ways.{Comes}
 use Rattle.rv_emit.specs.Code.{upper_of, lower_of, copy_part, kind_place}
 use Rattle.rv_emit.proofs.Words.{StandAt}
 use Rattle.rv_emit.proofs.Registers.{IsFile, file_set, same, other}
-use Rattle.rv_emit.proofs.Steps.{at, addi, lui, ld, sd, sb, comes_now, comes_after, constant_is, upper_fits, lower_fits}
+use Rattle.rv_emit.proofs.Steps.{at, Goes, goes_to, addi, lui, ld, sd, sb, comes_now, comes_after, constant_is, upper_fits, lower_fits}
 use Rattle.rv_emit.proofs.Begin.{Inside, Kept}
 
 -- the same words, for proofs to see
@@ -103,25 +103,25 @@ module _ (image : Image) (last : ℕ) (s : State) (q to from kind low high : ℕ
   file8 : IsFile copied
   file8 = file_set xs7 5 kind file7 (omega (arith, small_kind))
 
-  s0 : step image (t q xs m) ≡ On (t (q + 4) xs1 m)
+  s0 : Goes image (t q xs m) (t (q + 4) xs1 m)
   s0 = lui image s q xs m 5 (upper_of from) (omega arith, upper_fits from (omega (arith, small_from))) stand.0
 
-  s1 : step image (t (q + 4) xs1 m) ≡ On (t (q + 4 + 4) xs2 m)
+  s1 : Goes image (t (q + 4) xs1 m) (t (q + 4 + 4) xs2 m)
   s1 = addi image s (q + 4) xs1 m 5 5 (upper from) from (lower_of from) (omega arith, omega arith, lower_fits from) stand.1.0 (same xs 5 (upper from) file (omega arith)) (constant_is from (omega (arith, small_from)))
 
-  s2 : step image (t (q + 4 + 4) xs2 m) ≡ On (t (q + 4 + 4 + 4) xs3 m)
+  s2 : Goes image (t (q + 4 + 4) xs2 m) (t (q + 4 + 4 + 4) xs3 m)
   s2 = ld image s (q + 4 + 4) xs2 m 6 5 from from low (pos 0) (omega arith, omega arith, omega arith) stand.1.1.0 (same xs1 5 from file1 (omega arith)) (omega (arith, small_from)) is.is_low
 
   from_kept : get_or xs3 5 0 ≡ from
   from_kept = other xs2 5 6 low (omega arith) ∙ same xs1 5 from file1 (omega arith)
 
-  s3 : step image (t (q + 4 + 4 + 4) xs3 m) ≡ On (t (q + 4 + 4 + 4 + 4) xs4 m)
+  s3 : Goes image (t (q + 4 + 4 + 4) xs3 m) (t (q + 4 + 4 + 4 + 4) xs4 m)
   s3 = ld image s (q + 4 + 4 + 4) xs3 m 7 5 from (from + 8) high (pos 8) (omega arith, omega arith, omega arith) stand.1.1.1.0 from_kept (omega (arith, small_from)) is.is_high
 
-  s4 : step image (t (q + 4 + 4 + 4 + 4) xs4 m) ≡ On (t (q + 4 + 4 + 4 + 4 + 4) xs5 m)
+  s4 : Goes image (t (q + 4 + 4 + 4 + 4) xs4 m) (t (q + 4 + 4 + 4 + 4 + 4) xs5 m)
   s4 = lui image s (q + 4 + 4 + 4 + 4) xs4 m 5 (upper_of to) (omega arith, upper_fits to (omega (arith, small_to))) stand.1.1.1.1.0
 
-  s5 : step image (t (q + 4 + 4 + 4 + 4 + 4) xs5 m) ≡ On (t (q + 4 + 4 + 4 + 4 + 4 + 4) xs6 m)
+  s5 : Goes image (t (q + 4 + 4 + 4 + 4 + 4) xs5 m) (t (q + 4 + 4 + 4 + 4 + 4 + 4) xs6 m)
   s5 = addi image s (q + 4 + 4 + 4 + 4 + 4) xs5 m 5 5 (upper to) to (lower_of to) (omega arith, omega arith, lower_fits to) stand.1.1.1.1.1.0 (same xs4 5 (upper to) file4 (omega arith)) (constant_is to (omega (arith, small_to)))
 
   r5 : get_or xs6 5 0 ≡ to
@@ -133,19 +133,19 @@ module _ (image : Image) (last : ℕ) (s : State) (q to from kind low high : ℕ
   r7 : get_or xs6 7 0 ≡ high
   r7 = other xs5 7 5 to (omega arith) ∙ other xs4 7 5 (upper to) (omega arith) ∙ same xs3 7 high file3 (omega arith)
 
-  s6 : step image (t (q + 4 + 4 + 4 + 4 + 4 + 4) xs6 m) ≡ On (t (q + 4 + 4 + 4 + 4 + 4 + 4 + 4) xs6 m1)
+  s6 : Goes image (t (q + 4 + 4 + 4 + 4 + 4 + 4) xs6 m) (t (q + 4 + 4 + 4 + 4 + 4 + 4 + 4) xs6 m1)
   s6 = sd image s (q + 4 + 4 + 4 + 4 + 4 + 4) xs6 m 5 6 to to low (pos 0) m1 (omega arith, omega arith, omega arith) stand.1.1.1.1.1.1.0 r5 r6 (omega (arith, small_to)) is.first
 
-  s7 : step image (t (q + 4 + 4 + 4 + 4 + 4 + 4 + 4) xs6 m1) ≡ On (t (q + 4 + 4 + 4 + 4 + 4 + 4 + 4 + 4) xs6 m2)
+  s7 : Goes image (t (q + 4 + 4 + 4 + 4 + 4 + 4 + 4) xs6 m1) (t (q + 4 + 4 + 4 + 4 + 4 + 4 + 4 + 4) xs6 m2)
   s7 = sd image s (q + 4 + 4 + 4 + 4 + 4 + 4 + 4) xs6 m1 5 7 to (to + 8) high (pos 8) m2 (omega arith, omega arith, omega arith) stand.1.1.1.1.1.1.1.0 r5 r7 (omega (arith, small_to)) is.second
 
-  s8 : step image (t (q + 4 + 4 + 4 + 4 + 4 + 4 + 4 + 4) xs6 m2) ≡ On (t (q + 4 + 4 + 4 + 4 + 4 + 4 + 4 + 4 + 4) xs7 m2)
+  s8 : Goes image (t (q + 4 + 4 + 4 + 4 + 4 + 4 + 4 + 4) xs6 m2) (t (q + 4 + 4 + 4 + 4 + 4 + 4 + 4 + 4 + 4) xs7 m2)
   s8 = lui image s (q + 4 + 4 + 4 + 4 + 4 + 4 + 4 + 4) xs6 m2 5 (upper_of kind) (omega arith, upper_fits kind small_kind) stand.1.1.1.1.1.1.1.1.0
 
-  s9 : step image (t (q + 4 + 4 + 4 + 4 + 4 + 4 + 4 + 4 + 4) xs7 m2) ≡ On (t (q + 4 + 4 + 4 + 4 + 4 + 4 + 4 + 4 + 4 + 4) copied m2)
+  s9 : Goes image (t (q + 4 + 4 + 4 + 4 + 4 + 4 + 4 + 4 + 4) xs7 m2) (t (q + 4 + 4 + 4 + 4 + 4 + 4 + 4 + 4 + 4 + 4) copied m2)
   s9 = addi image s (q + 4 + 4 + 4 + 4 + 4 + 4 + 4 + 4 + 4) xs7 m2 5 5 (upper kind) kind (lower_of kind) (omega arith, omega arith, lower_fits kind) stand.1.1.1.1.1.1.1.1.1.0 (same xs6 5 (upper kind) file6 (omega arith)) (constant_is kind small_kind)
 
-  s10 : step image (t (q + 4 + 4 + 4 + 4 + 4 + 4 + 4 + 4 + 4 + 4) copied m2) ≡ On (t (q + 4 + 4 + 4 + 4 + 4 + 4 + 4 + 4 + 4 + 4 + 4) copied m3)
+  s10 : Goes image (t (q + 4 + 4 + 4 + 4 + 4 + 4 + 4 + 4 + 4 + 4) copied m2) (t (q + 4 + 4 + 4 + 4 + 4 + 4 + 4 + 4 + 4 + 4 + 4) copied m3)
   s10 = sb image s (q + 4 + 4 + 4 + 4 + 4 + 4 + 4 + 4 + 4 + 4) copied m2 5 0 kind kind 0 (pos 0) m3 (omega arith, omega arith, omega arith) stand.1.1.1.1.1.1.1.1.1.1.0 (same xs7 5 kind file7 (omega arith)) refl (omega (arith, small_kind)) is.third
 
   kept : (r : ℕ) → 7 < r → get_or copied r 0 ≡ get_or xs r 0
@@ -168,4 +168,4 @@ module _ (image : Image) (last : ℕ) (s : State) (q to from kind low high : ℕ
       (comes_after image last 3 (t (q + 4 + 4 + 4 + 4 + 4 + 4 + 4) xs6 m1) (t (q + 4 + 4 + 4 + 4 + 4 + 4 + 4 + 4) xs6 m2) done s7 (inside (t (q + 4 + 4 + 4 + 4 + 4 + 4 + 4 + 4) xs6 m2) (omega arith) (omega arith))
       (comes_after image last 2 (t (q + 4 + 4 + 4 + 4 + 4 + 4 + 4 + 4) xs6 m2) (t (q + 4 + 4 + 4 + 4 + 4 + 4 + 4 + 4 + 4) xs7 m2) done s8 (inside (t (q + 4 + 4 + 4 + 4 + 4 + 4 + 4 + 4 + 4) xs7 m2) (omega arith) (omega arith))
       (comes_after image last 1 (t (q + 4 + 4 + 4 + 4 + 4 + 4 + 4 + 4 + 4) xs7 m2) (t (q + 4 + 4 + 4 + 4 + 4 + 4 + 4 + 4 + 4 + 4) copied m2) done s9 (inside (t (q + 4 + 4 + 4 + 4 + 4 + 4 + 4 + 4 + 4 + 4) copied m2) (omega arith) (omega arith))
-      (comes_now image last (t (q + 4 + 4 + 4 + 4 + 4 + 4 + 4 + 4 + 4 + 4) copied m2) (t (q + 44) copied m3) (s10 ∙ ap (λ w. On (t w copied m3)) far)))))))))))
+      (comes_now image last (t (q + 4 + 4 + 4 + 4 + 4 + 4 + 4 + 4 + 4 + 4) copied m2) (t (q + 44) copied m3) (goes_to s10 (ap (λ w. t w copied m3) far))))))))))))

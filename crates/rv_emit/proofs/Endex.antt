@@ -7,7 +7,7 @@ use Rattle.layout_params.specs.declared.cell.Cell.TheVariants.{Descr, Chars}
 use Rattle.layout_params.specs.declared.cell.Descr.{Descr as Descriptor}
 use Rattle.layout_params.specs.Parameters.{Settings}
 use Rattle.sil_model.specs.declared.end.End.TheVariants as ends
-use Rattle.sil_model.specs.declared.macros.Macro.TheVariants.{Endex}
+use Rattle.sil_macros.specs.declared.names.Macro.TheVariants.{Endex}
 use Rattle.sil_model.specs.declared.program.Arg.TheVariants.{Place}
 use Rattle.sil_model.specs.declared.program.Flow.TheVariants.{Exit as ExitFlow}
 use Rattle.sil_model.specs.declared.program.Program.{Program}

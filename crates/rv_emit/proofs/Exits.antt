@@ -10,13 +10,13 @@ use Rattle.image_file.specs.Image.{Image}
 use Rattle.rv_emulate.specs.declared.end.CpuEnd.{CpuEnd}
 use Rattle.rv_emulate.specs.declared.end.CpuEnd.TheVariants.{Exit}
 use Rattle.rv_emulate.specs.Memory.{Memory, loaded}
-use Rattle.rv_emulate.specs.States.{State, Outcome, On, Ended}
+use Rattle.rv_emulate.specs.States.{State, Outcome, Ended}
 use Rattle.rv_emulate.specs.Steps.{step, extended, r_value}
 use Rattle.rv_emit.specs.Ways.{Comes}
 use Rattle.rv_emit.specs.Code.{upper_of, lower_of, exit_part}
 use Rattle.rv_emit.proofs.Words.{StandAt}
 use Rattle.rv_emit.proofs.Registers.{IsFile, file_set, same, other}
-use Rattle.rv_emit.proofs.Steps.{at, addi, lui, ld, sltu, ecall, ends_now, comes_after, exit_call, one_call, constant_is, upper_fits, lower_fits}
+use Rattle.rv_emit.proofs.Steps.{at, Goes, addi, lui, ld, sltu, ecall, ends_now, comes_after, exit_call, one_call, constant_is, upper_fits, lower_fits}
 use Rattle.rv_emit.proofs.Begin.{Inside}
 
 -- the same words, for proofs to see
@@ -77,19 +77,19 @@ module _ (image : Image) (last : ℕ) (s : State) (q k address value : ℕ) (sta
   file4 : IsFile xs4
   file4 = file_set xs3 10 truth file3 truth_small
 
-  s0 : step image (t q xs) ≡ On (t (q + 4) xs1)
+  s0 : Goes image (t q xs) (t (q + 4) xs1)
   s0 = lui image s q xs m 5 (upper_of address) (omega arith, upper_fits address small) stand.0
 
-  s1 : step image (t (q + 4) xs1) ≡ On (t (q + 4 + 4) xs2)
+  s1 : Goes image (t (q + 4) xs1) (t (q + 4 + 4) xs2)
   s1 = addi image s (q + 4) xs1 m 5 5 upper address (lower_of address) (omega arith, omega arith, lower_fits address) stand.1.0 (same xs 5 upper file (omega arith)) (constant_is address small)
 
-  s2 : step image (t (q + 4 + 4) xs2) ≡ On (t (q + 4 + 4 + 4) xs3)
+  s2 : Goes image (t (q + 4 + 4) xs2) (t (q + 4 + 4 + 4) xs3)
   s2 = ld image s (q + 4 + 4) xs2 m 6 5 address address value (pos 0) (omega arith, omega arith, omega arith) stand.1.1.0 (same xs1 5 address file1 (omega arith)) (omega (arith, small)) is_value
 
-  s3 : step image (t (q + 4 + 4 + 4) xs3) ≡ On (t (q + 4 + 4 + 4 + 4) xs4)
+  s3 : Goes image (t (q + 4 + 4 + 4) xs3) (t (q + 4 + 4 + 4 + 4) xs4)
   s3 = sltu image s (q + 4 + 4 + 4) xs3 m 10 0 6 0 value (omega arith, omega arith, omega arith) stand.1.1.1.0 refl (same xs2 6 value file2 (omega arith))
 
-  s4 : step image (t (q + 4 + 4 + 4 + 4) xs4) ≡ On (t (q + 4 + 4 + 4 + 4 + 4) xs5)
+  s4 : Goes image (t (q + 4 + 4 + 4 + 4) xs4) (t (q + 4 + 4 + 4 + 4 + 4) xs5)
   s4 = addi image s (q + 4 + 4 + 4 + 4) xs4 m 17 0 0 1 (pos 1) (omega arith, omega arith, omega arith) stand.1.1.1.1.0 refl refl
 
   r17 : get_or xs5 17 0 ≡ 1
@@ -105,7 +105,7 @@ module _ (image : Image) (last : ℕ) (s : State) (q k address value : ℕ) (sta
   code = Exit (cond (value == 0) 0 1)
 
   s5 : step image (t (q + 4 + 4 + 4 + 4 + 4) xs5) ≡ Ended (Some code) s.tapes
-  s5 = ecall image s (q + 4 + 4 + 4 + 4 + 4) xs5 m 1 truth k code stand.1.1.1.1.1.0 r17 r10 r26 (exit_call (length image.statements) k value s.failed (q + 4 + 4 + 4 + 4 + 4) few)
+  s5 = ecall image s (q + 4 + 4 + 4 + 4 + 4) xs5 m truth k code stand.1.1.1.1.1.0 r17 r10 r26 (exit_call (length image.statements) k value s.failed (q + 4 + 4 + 4 + 4 + 4) few)
 
   pub exits : Comes image last false 6 (t q xs) (Ended (Some code) s.tapes)
   exits =

@@ -1,5 +1,5 @@
 -- The code of an INCRA carries it out.
-use Rattle.std.proofs.Common.{◌≡◌, ℕ, suc, ◌+◌, ◌-◌, ◌*◌, ◌^◌, ◌<◌, ◌≤◌, List, [], ◌∷◌, length, false, Some, None, sym, ap, subst, ◌∙◌, arith}
+use Rattle.std.proofs.Common.{◌≡◌, ℕ, suc, ◌+◌, ◌*◌, ◌^◌, ◌<◌, ◌≤◌, List, [], ◌∷◌, length, false, Some, None, sym, ap, subst, ◌∙◌, arith}
 use Rattle.std.specs.Int.{w64, cast_unsigned}
 use Rattle.std.specs.Prelude.{ℤ, pos, FitsSigned, slice_get}
 use Rattle.layout_params.specs.declared.cell.Cell.{Cell}
@@ -7,7 +7,7 @@ use Rattle.layout_params.specs.declared.cell.Cell.TheVariants.{Descr, Chars}
 use Rattle.layout_params.specs.declared.cell.Descr.{Descr as Descriptor}
 use Rattle.layout_params.specs.Parameters.{Settings}
 use Rattle.sil_model.specs.declared.end.End.TheVariants as ends
-use Rattle.sil_model.specs.declared.macros.Macro.TheVariants.{Incra}
+use Rattle.sil_macros.specs.declared.names.Macro.TheVariants.{Incra}
 use Rattle.sil_model.specs.declared.program.Arg.TheVariants.{Place, Number}
 use Rattle.sil_model.specs.declared.program.Program.{Program}
 use Rattle.sil_model.specs.declared.program.Statement.{Statement}
@@ -48,15 +48,21 @@ goes_as card i n d m size e =
     ∙ ap (λ o. settle m (onward o)) (set_a_is m.memory i d (d.a ⊞ n) size e)
 
 -- the sum of 64 bits is the machine's
-sum_same : (a : ℤ) (n : ℕ) → FitsSigned w64 a → n < 2 ^ 31 - 2 ^ 11 → sum64 (cast_unsigned w64 a) n ≡ cast_unsigned w64 (a ⊞ pos n)
-sum_same a n h lt = grind arith
+sum_same : (a n : ℤ) → FitsSigned w64 a → FitsSigned w64 n → sum64 (cast_unsigned w64 a) (cast_unsigned w64 n) ≡ cast_unsigned w64 (a ⊞ n)
+sum_same a n h k = grind arith
 
 sum_small : (x n : ℕ) → sum64 x n < 2 ^ 64
 sum_small x n = omega arith
 
-module _ {program : Program} {settings : Settings} {image : Image} {n : ℕ} {m : machine.State} {s : State} (card i number : ℕ) (short : number < 2 ^ 31 - 2 ^ 11) (c : Turn program settings image n m s (incra_statement card (pos (cell_address i)) (pos number)) i (add_list (cell_address i) number)) where
+module _ {program : Program} {settings : Settings} {image : Image} {n : ℕ} {m : machine.State} {s : State} (card i : ℕ) (z : ℤ) (short : FitsSigned w64 z) (c : Turn program settings image n m s (incra_statement card (pos (cell_address i)) z) i (add_list (cell_address i) (cast_unsigned w64 z))) where
   abbrev st : Statement
-  st = incra_statement card (pos (cell_address i)) (pos number)
+  st = incra_statement card (pos (cell_address i)) z
+
+  abbrev number : ℕ
+  number = cast_unsigned w64 z
+
+  number_small : number < 2 ^ 64
+  number_small = unsigned_small z short
 
   abbrev k : ℕ
   k = m.statement
@@ -67,7 +73,7 @@ module _ {program : Program} {settings : Settings} {image : Image} {n : ℕ} {m 
   undefined : (chars : List ℕ) → slice_get m.memory.cells i ≡ Some (Chars chars) → Made
   undefined chars e =
       let soon = comes_within image (last c) false 11 (cost st m) s (Ended (Some (Undefined k)) m.tapes) (omega (arith, cost_least st m)) (undefined_way c chars e) in
-      subst (Makes image settings (last c) n false (cost st m) s) (sym (undefined_as card (pos (cell_address i)) (pos number) m (a_none m.memory i chars (cell_size c) e))) soon
+      subst (Makes image settings (last c) n false (cost st m) s) (sym (undefined_as card (pos (cell_address i)) z m (a_none m.memory i chars (cell_size c) e))) soon
 
   module _ (d : Descriptor) (e : slice_get m.memory.cells i ≡ Some (Descr d)) where
     abbrev value : ℕ
@@ -92,31 +98,31 @@ module _ {program : Program} {settings : Settings} {image : Image} {n : ℕ} {m 
     is_stored = store_cells s.memory (i * 16) total (omega arith) (omega (arith, room))
 
     abbrev ys : List ℕ
-    ys = added image (last c) s (entry c + 56) (cell_address i) number value (stand_rest c) (inside_rest c) (omega (arith, there c, cells_few c)) short (tested c d e) (tested_file c d e) s.memory m' is_value (unsigned_small d.a integer) is_stored
+    ys = added image (last c) s (entry c + 56) (cell_address i) number value (stand_rest c) (inside_rest c) (omega (arith, there c, cells_few c)) number_small (tested c d e) (tested_file c d e) s.memory m' is_value (unsigned_small d.a integer) is_stored
 
     kept : Kept (tested c d e) ys
-    kept = added_kept image (last c) s (entry c + 56) (cell_address i) number value (stand_rest c) (inside_rest c) (omega (arith, there c, cells_few c)) short (tested c d e) (tested_file c d e) s.memory m' is_value (unsigned_small d.a integer) is_stored
+    kept = added_kept image (last c) s (entry c + 56) (cell_address i) number value (stand_rest c) (inside_rest c) (omega (arith, there c, cells_few c)) number_small (tested c d e) (tested_file c d e) s.memory m' is_value (unsigned_small d.a integer) is_stored
 
     abbrev t : State
-    t = at image s (entry c + 56 + 28) ys m'
+    t = at image s (entry c + 56 + 52) ys m'
 
-    rest : Comes image (last c) false 7 (at image s (entry c + 56) (tested c d e) s.memory) (On t)
-    rest = adds image (last c) s (entry c + 56) (cell_address i) number value (stand_rest c) (inside_rest c) (omega (arith, there c, cells_few c)) short (tested c d e) (tested_file c d e) s.memory m' is_value (unsigned_small d.a integer) is_stored
+    rest : Comes image (last c) false 13 (at image s (entry c + 56) (tested c d e) s.memory) (On t)
+    rest = adds image (last c) s (entry c + 56) (cell_address i) number value (stand_rest c) (inside_rest c) (omega (arith, there c, cells_few c)) number_small (tested c d e) (tested_file c d e) s.memory m' is_value (unsigned_small d.a integer) is_stored
 
     way : Comes image (last c) false (cost st m) s (On t)
-    way = comes_within image (last c) false 15 (cost st m) s (On t) (omega (arith, cost_least st m)) (from_test c d e 7 (On t) rest)
+    way = comes_within image (last c) false 21 (cost st m) s (On t) (omega (arith, cost_least st m)) (from_test c d e 13 (On t) rest)
 
     there_now : t.pc ≡ place image (last c) (k + 1)
     there_now = let z : suc k ≡ k + 1 = omega arith in sym (next_place c) ∙ ap (λ j. place image (last c) j) z
 
     abbrev new : Descriptor
-    new = record d { a = d.a ⊞ pos number }
+    new = record d { a = d.a ⊞ z }
 
     stands : Represents settings n (at_next m (k + 1) (with_cell m.memory i (Descr new))) t
-    stands = represents_after image i (k + 1) t.pc (Descr new) ys m' c.can.standard c.rep kept.file (kept.bound ∙ tested_bound c d e) (omega (arith, kept.left, tested_left c d e)) (there c) (rewrites_a s.memory i total room) (packs_a s.memory i total room d (d.a ⊞ pos number) (sum_same d.a number integer short) (sum_small value number) ((packed c).packed i (Descr d) e)) ((packed c).kinds i (Descr d) e)
+    stands = represents_after image i (k + 1) t.pc (Descr new) ys m' c.can.standard c.rep kept.file (kept.bound ∙ tested_bound c d e) (omega (arith, kept.left, tested_left c d e)) (there c) (rewrites_a s.memory i total room) (packs_a s.memory i total room d (d.a ⊞ z) (sum_same d.a z integer short) (sum_small value number) ((packed c).packed i (Descr d) e)) ((packed c).kinds i (Descr d) e)
 
     went : Made
-    went = subst (Makes image settings (last c) n false (cost st m) s) (sym (goes_as card i (pos number) d m (cell_size c) e)) (t, way, there_now, stands)
+    went = subst (Makes image settings (last c) n false (cost st m) s) (sym (goes_as card i z d m (cell_size c) e)) (t, way, there_now, stands)
 
   made_by : (cell : Cell) → slice_get m.memory.cells i ≡ Some cell → Made
   made_by (Descr d) e = went d e

@@ -7,6 +7,7 @@ mod Check
 mod Loads
 mod Cells
 mod Exits
+mod WideNumbers
 mod Adds
 mod Copies
 mod Tested

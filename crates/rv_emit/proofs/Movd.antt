@@ -11,7 +11,7 @@ use Rattle.layout_params.specs.Parameters.{Settings}
 use Rattle.layout_params.specs.Sizes.{packed_16}
 use Rattle.sil_model.specs.declared.end.End.TheVariants as ends
 use Rattle.sil_model.specs.declared.limits.TheConstants.{FIRST_CELL}
-use Rattle.sil_model.specs.declared.macros.Macro.TheVariants.{Movd}
+use Rattle.sil_macros.specs.declared.names.Macro.TheVariants.{Movd}
 use Rattle.sil_model.specs.declared.program.Arg.TheVariants.{Place}
 use Rattle.sil_model.specs.declared.program.Program.{Program}
 use Rattle.sil_model.specs.declared.program.Statement.{Statement}

@@ -8,13 +8,13 @@ use Rattle.rv_isa.specs.declared.instr.Instr.TheVariants.{I, U, Ecall}
 use Rattle.image_file.specs.Image.{Image}
 use Rattle.rv_emulate.specs.declared.end.CpuEnd.TheVariants.{Undefined}
 use Rattle.rv_emulate.specs.Memory.{Memory}
-use Rattle.rv_emulate.specs.States.{State, Outcome, On, Ended}
+use Rattle.rv_emulate.specs.States.{State, Outcome, Ended}
 use Rattle.rv_emulate.specs.Steps.{step, extended}
 use Rattle.rv_emit.specs.Ways.{Comes}
 use Rattle.rv_emit.specs.Code.{upper_of, lower_of, past_code}
 use Rattle.rv_emit.proofs.Words.{StandAt}
 use Rattle.rv_emit.proofs.Registers.{IsFile, file_set, same, other}
-use Rattle.rv_emit.proofs.Steps.{at, addi, lui, ecall, ends_now, comes_after, undefined_call, one_call, constant_is, upper_fits, lower_fits}
+use Rattle.rv_emit.proofs.Steps.{at, Goes, addi, lui, ecall, ends_now, comes_after, undefined_call, one_call, constant_is, upper_fits, lower_fits}
 use Rattle.rv_emit.proofs.Begin.{Inside}
 
 -- the same words, for proofs to see
@@ -62,16 +62,16 @@ module _ (image : Image) (last : ℕ) (s : State) (q count : ℕ) (stand : Stand
   file3 : IsFile xs3
   file3 = file_set xs2 10 3 file2 (omega arith)
 
-  s0 : step image (t q xs) ≡ On (t (q + 4) xs1)
+  s0 : Goes image (t q xs) (t (q + 4) xs1)
   s0 = lui image s q xs m 26 (upper_of count) (omega arith, upper_fits count small) stand.0
 
-  s1 : step image (t (q + 4) xs1) ≡ On (t (q + 4 + 4) xs2)
+  s1 : Goes image (t (q + 4) xs1) (t (q + 4 + 4) xs2)
   s1 = addi image s (q + 4) xs1 m 26 26 upper count (lower_of count) (omega arith, omega arith, lower_fits count) stand.1.0 (same xs 26 upper file (omega arith)) (constant_is count small)
 
-  s2 : step image (t (q + 4 + 4) xs2) ≡ On (t (q + 4 + 4 + 4) xs3)
+  s2 : Goes image (t (q + 4 + 4) xs2) (t (q + 4 + 4 + 4) xs3)
   s2 = addi image s (q + 4 + 4) xs2 m 10 0 0 3 (pos 3) (omega arith, omega arith, omega arith) stand.1.1.0 refl refl
 
-  s3 : step image (t (q + 4 + 4 + 4) xs3) ≡ On (t (q + 4 + 4 + 4 + 4) xs4)
+  s3 : Goes image (t (q + 4 + 4 + 4) xs3) (t (q + 4 + 4 + 4 + 4) xs4)
   s3 = addi image s (q + 4 + 4 + 4) xs3 m 17 0 0 1 (pos 1) (omega arith, omega arith, omega arith) stand.1.1.1.0 refl refl
 
   r17 : get_or xs4 17 0 ≡ 1
@@ -84,7 +84,7 @@ module _ (image : Image) (last : ℕ) (s : State) (q count : ℕ) (stand : Stand
   r26 = other xs3 26 17 1 (omega arith) ∙ other xs2 26 10 3 (omega arith) ∙ same xs1 26 count file1 (omega arith)
 
   s4 : step image (t (q + 4 + 4 + 4 + 4) xs4) ≡ Ended (Some (Undefined count)) s.tapes
-  s4 = ecall image s (q + 4 + 4 + 4 + 4) xs4 m 1 3 count (Undefined count) stand.1.1.1.1.0 r17 r10 r26 (undefined_call (length image.statements) count s.failed (q + 4 + 4 + 4 + 4) few)
+  s4 = ecall image s (q + 4 + 4 + 4 + 4) xs4 m 3 count (Undefined count) stand.1.1.1.1.0 r17 r10 r26 (undefined_call (length image.statements) count s.failed (q + 4 + 4 + 4 + 4) few)
 
   pub ends_past : Comes image last false 5 (t q xs) (Ended (Some (Undefined count)) s.tapes)
   ends_past =

@@ -5,8 +5,8 @@ use Rattle.std.specs.Prelude.{slice_get}
 use Rattle.rv_isa.specs.declared.instr.Instr.{Instr}
 use Rattle.rv_isa.specs.Words.{word_of}
 use Rattle.layout_params.specs.Parameters.{Settings}
-use Rattle.sil_model.specs.declared.macros.Macro.{Macro}
-use Rattle.sil_model.specs.declared.macros.Macro.TheVariants.{Endex, Incra, Movd}
+use Rattle.sil_macros.specs.declared.names.Macro.{Macro}
+use Rattle.sil_macros.specs.declared.names.Macro.TheVariants.{Endex, Incra, Movd}
 use Rattle.sil_model.specs.declared.program.Arg.{Arg}
 use Rattle.sil_model.specs.declared.program.Arg.TheVariants.{Place, Number}
 use Rattle.sil_model.specs.declared.program.Program.{Program}

@@ -11,12 +11,12 @@ use Rattle.sil_base.proofs.Numbers.{length-with_piece, length-low_bytes}
 use Rattle.image_file.specs.Image.{Image}
 use Rattle.rv_emulate.specs.Memory.{Memory, scratch_place}
 use Rattle.rv_emulate.specs.States.{State, Outcome, On}
-use Rattle.rv_emulate.specs.Steps.{step, extended}
+use Rattle.rv_emulate.specs.Steps.{extended}
 use Rattle.rv_emit.specs.Ways.{Comes}
 use Rattle.rv_emit.specs.Code.{upper_of, lower_of, start_code}
 use Rattle.rv_emit.proofs.Words.{StandAt}
 use Rattle.rv_emit.proofs.Registers.{IsFile, file_set, same, other}
-use Rattle.rv_emit.proofs.Steps.{at, addi, lui, sd, comes_now, comes_after, constant_is, upper_fits, lower_fits}
+use Rattle.rv_emit.proofs.Steps.{at, Goes, goes_to, addi, lui, sd, comes_now, comes_after, constant_is, upper_fits, lower_fits}
 use Rattle.rv_emit.proofs.Stores.{EndBefore, store_scratch}
 use Rattle.rv_emit.proofs.Begin.{Inside, Kept}
 
@@ -79,16 +79,16 @@ module _ (image : Image) (last : ℕ) (s : State) (q top : ℕ) (stand : StandAt
   abbrev pub stacked : Memory
   stacked = record m { scratch = with_stack top m.scratch }
 
-  s0 : step image (t q xs m) ≡ On (t (q + 4) xs1 m)
+  s0 : Goes image (t q xs m) (t (q + 4) xs1 m)
   s0 = lui image s q xs m 5 (upper_of scratch_place) (omega arith, omega arith) stand.0
 
-  s1 : step image (t (q + 4) xs1 m) ≡ On (t (q + 4 + 4) xs2 m)
+  s1 : Goes image (t (q + 4) xs1 m) (t (q + 4 + 4) xs2 m)
   s1 = addi image s (q + 4) xs1 m 5 5 (upper scratch_place) scratch_place (lower_of scratch_place) (omega arith, omega arith, lower_fits scratch_place) stand.1.0 (same xs 5 (upper scratch_place) file (omega arith)) (constant_is scratch_place (omega arith))
 
-  s2 : step image (t (q + 4 + 4) xs2 m) ≡ On (t (q + 4 + 4 + 4) xs3 m)
+  s2 : Goes image (t (q + 4 + 4) xs2 m) (t (q + 4 + 4 + 4) xs3 m)
   s2 = lui image s (q + 4 + 4) xs2 m 6 (upper_of top) (omega arith, upper_fits top small) stand.1.1.0
 
-  s3 : step image (t (q + 4 + 4 + 4) xs3 m) ≡ On (t (q + 4 + 4 + 4 + 4) started m)
+  s3 : Goes image (t (q + 4 + 4 + 4) xs3 m) (t (q + 4 + 4 + 4 + 4) started m)
   s3 = addi image s (q + 4 + 4 + 4) xs3 m 6 6 (upper top) top (lower_of top) (omega arith, omega arith, lower_fits top) stand.1.1.1.0 (same xs2 6 (upper top) file2 (omega arith)) (constant_is top small)
 
   r5 : get_or started 5 0 ≡ scratch_place
@@ -97,14 +97,14 @@ module _ (image : Image) (last : ℕ) (s : State) (q top : ℕ) (stand : StandAt
   r6 : get_or started 6 0 ≡ top
   r6 = same xs3 6 top file3 (omega arith)
 
-  s4 : step image (t (q + 4 + 4 + 4 + 4) started m) ≡ On (t (q + 4 + 4 + 4 + 4 + 4) started m1)
+  s4 : Goes image (t (q + 4 + 4 + 4 + 4) started m) (t (q + 4 + 4 + 4 + 4 + 4) started m1)
   s4 =
       sd image s (q + 4 + 4 + 4 + 4) started m 5 6 scratch_place (scratch_place + 0) top (pos 0) m1 (omega arith, omega arith, omega arith) stand.1.1.1.1.0 r5 r6 refl (store_scratch m 0 top room refl (omega (arith, size)))
 
   size1 : length m1.scratch ≡ length m.scratch
   size1 = length-with_piece 0 (low_bytes 8 top) m.scratch (omega (arith, size, length-low_bytes 8 top))
 
-  s5 : step image (t (q + 4 + 4 + 4 + 4 + 4) started m1) ≡ On (t (q + 4 + 4 + 4 + 4 + 4 + 4) started stacked)
+  s5 : Goes image (t (q + 4 + 4 + 4 + 4 + 4) started m1) (t (q + 4 + 4 + 4 + 4 + 4 + 4) started stacked)
   s5 =
       sd image s (q + 4 + 4 + 4 + 4 + 4) started m1 5 6 scratch_place (scratch_place + 8) top (pos 8) stacked (omega arith, omega arith, omega arith) stand.1.1.1.1.1.0 r5 r6 refl (store_scratch m1 8 top (record { cells = room.cells; kinds = room.kinds; tables = room.tables }) refl (omega (arith, size, size1)))
 
@@ -123,4 +123,4 @@ module _ (image : Image) (last : ℕ) (s : State) (q top : ℕ) (stand : StandAt
       (comes_after image last 3 (t (q + 4 + 4) xs2 m) (t (q + 4 + 4 + 4) xs3 m) done s2 (inside (t (q + 4 + 4 + 4) xs3 m) (omega arith) (omega arith))
       (comes_after image last 2 (t (q + 4 + 4 + 4) xs3 m) (t (q + 4 + 4 + 4 + 4) started m) done s3 (inside (t (q + 4 + 4 + 4 + 4) started m) (omega arith) (omega arith))
       (comes_after image last 1 (t (q + 4 + 4 + 4 + 4) started m) (t (q + 4 + 4 + 4 + 4 + 4) started m1) done s4 (inside (t (q + 4 + 4 + 4 + 4 + 4) started m1) (omega arith) (omega arith))
-      (comes_now image last (t (q + 4 + 4 + 4 + 4 + 4) started m1) (t (q + 24) started stacked) (s5 ∙ ap (λ w. On (t w started stacked)) far))))))
+      (comes_now image last (t (q + 4 + 4 + 4 + 4 + 4) started m1) (t (q + 24) started stacked) (goes_to s5 (ap (λ w. t w started stacked) far)))))))

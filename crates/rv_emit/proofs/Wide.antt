@@ -2,13 +2,14 @@
 use Rattle.std.proofs.Common.{◌≡◌, ℕ, suc, ◌+◌, ◌-◌, ◌*◌, ◌^◌, ◌<◌, ◌≤◌, List, [], ◌∷◌, ◌++◌, length, map, sym, subst, arith}
 use Rattle.std.proofs.lemmas.List.Elements.{All-nil, All-cons}
 use Rattle.std.specs.List.{All}
+use Rattle.std.specs.Int.{w64, cast_unsigned}
 use Rattle.std.specs.Prelude.{ℤ, pos}
 use Rattle.rv_isa.specs.declared.instr.Instr.{Instr}
 use Rattle.rv_isa.specs.Words.{IsInstr, word_of}
 use Rattle.rv_isa.proofs.Back.{are_parts}
 use Rattle.sil_model.specs.declared.limits.TheConstants.{FIRST_CELL}
-use Rattle.sil_model.specs.declared.macros.Macro.{Macro}
-use Rattle.sil_model.specs.declared.macros.Macro.TheVariants.{Endex, Incra, Movd}
+use Rattle.sil_macros.specs.declared.names.Macro.{Macro}
+use Rattle.sil_macros.specs.declared.names.Macro.TheVariants.{Endex, Incra, Movd}
 use Rattle.sil_model.specs.declared.program.Arg.{Arg}
 use Rattle.sil_model.specs.declared.program.Arg.TheVariants.{Place, Number}
 use Rattle.sil_model.specs.declared.program.Statement.{Statement}
@@ -18,6 +19,7 @@ use Rattle.rv_emit.proofs.Begin.{begin_is}
 use Rattle.rv_emit.proofs.Check.{check_is}
 use Rattle.rv_emit.proofs.Exits.{exit_is}
 use Rattle.rv_emit.proofs.Adds.{add_is}
+use Rattle.rv_emit.proofs.Endex.{unsigned_small}
 use Rattle.rv_emit.proofs.Copies.{copy_is}
 use Rattle.rv_emit.proofs.Past.{past_is}
 use Rattle.rv_emit.proofs.Start.{start_is}
@@ -46,11 +48,11 @@ body_are count Endex (Place d ∷ []) few h =
     subst (λ z. AreInstrs (body_of Endex (Place z ∷ []))) (sym at.1) (are-append (check_code at.0) (exit_part at.0) check exit)
 body_are count Incra (Place d ∷ Number n ∷ []) few h =
     let at = address count d few h.0 in
-    let small = h.1 in
+    let number : ℕ = cast_unsigned w64 n in
     let check : AreInstrs (check_code at.0) = subst AreInstrs (sym (check_is at.0)) (check_are at.0 at.2) in
-    let add : AreInstrs (add_part at.0 small.0) = subst AreInstrs (sym (add_is at.0 small.0)) (add_are at.0 small.0 at.2 small.1) in
-    let both : AreInstrs (body_of Incra (Place (pos at.0) ∷ Number (pos small.0) ∷ [])) = are-append (check_code at.0) (add_part at.0 small.0) check add in
-    subst (λ z. AreInstrs (body_of Incra (Place z ∷ Number n ∷ []))) (sym at.1) (subst (λ z. AreInstrs (body_of Incra (Place (pos at.0) ∷ Number z ∷ []))) (sym small.2) both)
+    let add : AreInstrs (add_part at.0 number) = subst AreInstrs (sym (add_is at.0 number)) (add_are at.0 number at.2 (unsigned_small n h.1)) in
+    let both : AreInstrs (body_of Incra (Place (pos at.0) ∷ Number n ∷ [])) = are-append (check_code at.0) (add_part at.0 number) check add in
+    subst (λ z. AreInstrs (body_of Incra (Place z ∷ Number n ∷ []))) (sym at.1) both
 body_are count Movd (Place d1 ∷ Place d2 ∷ []) few h =
     let to = address count d1 few h.0 in
     let from = address count d2 few h.1 in

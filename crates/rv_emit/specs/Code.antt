@@ -1,8 +1,9 @@
 -- The instructions of statements, in the standard layout.
 use Rattle.std.specs.Prelude.{ℕ, ◌+◌, ◌-◌, ◌*◌, ◌/◌, ◌%◌, ◌^◌, ℤ, pos, negsuc, List, [], ◌∷◌, ◌++◌, length, map}
 use Rattle.std.specs.List.{flat_map}
+use Rattle.std.specs.Int.{w64, cast_unsigned}
 use Rattle.rv_isa.specs.declared.instr.ROp.TheVariants.{Add, Sltu}
-use Rattle.rv_isa.specs.declared.instr.IOp.TheVariants.{Addi, Ld, Lbu}
+use Rattle.rv_isa.specs.declared.instr.IOp.TheVariants.{Addi, Slli, Ld, Lbu}
 use Rattle.rv_isa.specs.declared.instr.SOp.TheVariants.{Sb, Sd}
 use Rattle.rv_isa.specs.declared.instr.BOp.TheVariants.{Beq, Bne}
 use Rattle.rv_isa.specs.declared.instr.UOp.TheVariants.{Lui}
@@ -12,8 +13,8 @@ use Rattle.rv_isa.specs.Words.{word_of}
 use Rattle.rv_isa.specs.Decoded.{signed}
 use Rattle.layout_params.specs.Parameters.{Settings}
 use Rattle.sil_model.specs.declared.limits.TheConstants.{FIRST_CELL}
-use Rattle.sil_model.specs.declared.macros.Macro.{Macro}
-use Rattle.sil_model.specs.declared.macros.Macro.TheVariants.{Endex, Incra, Movd}
+use Rattle.sil_macros.specs.declared.names.Macro.{Macro}
+use Rattle.sil_macros.specs.declared.names.Macro.TheVariants.{Endex, Incra, Movd}
 use Rattle.sil_model.specs.declared.program.Arg.{Arg}
 use Rattle.sil_model.specs.declared.program.Arg.TheVariants.{Place, Number}
 use Rattle.sil_model.specs.declared.program.Program.{Program}
@@ -22,7 +23,7 @@ use Rattle.sil_model.specs.Start.{empty_stack}
 use Rattle.image_file.specs.Image.{first_place}
 use Rattle.rv_emulate.specs.Memory.{kinds_place, scratch_place}
 
--- the upper bits of a number below 2^31 - 2^11, and its lower 12 with their sign: LUI and ADDI of these make the number
+-- the lower 12 bits of a number with their sign, and the upper ones, one more where the lower part is negative; of a number below 2^31 - 2^11 LUI and ADDI make it
 abbrev pub upper_of : ℕ → ℕ
 upper_of n = (n + 2 ^ 11) / 2 ^ 12
 
@@ -32,6 +33,15 @@ lower_of n = signed 11 (n % 2 ^ 12)
 -- a number of at most 31 bits, in a register
 abbrev pub constant : ℕ → ℕ → List Instr
 constant rd n = U Lui rd (upper_of n) ∷ I Addi rd rd (lower_of n) ∷ []
+
+-- twelve bits more: the upper part of a number, which is in a register, is shifted, and the lower part added
+abbrev pub joined_to : ℕ → ℕ → List Instr
+joined_to rd n = I Slli rd rd (pos 12) ∷ I Addi rd rd (lower_of n) ∷ []
+
+-- any number of 64 bits, in a register
+abbrev pub wide_constant : ℕ → ℕ → List Instr
+wide_constant rd n =
+    constant rd (upper_of (upper_of (upper_of n))) ++ joined_to rd (upper_of (upper_of n)) ++ joined_to rd (upper_of n) ++ joined_to rd n
 
 -- call 1 with a number of at most 11 bits
 abbrev pub end_call : ℕ → List Instr
@@ -53,9 +63,9 @@ check_code at = constant 5 (kind_place at) ++ I Lbu 6 5 (pos 0) ∷ B Beq 6 0 (p
 unfoldable pub exit_part : ℕ → List Instr
 exit_part at = constant 5 at ++ I Ld 6 5 (pos 0) ∷ R Sltu 10 0 6 ∷ I Addi 17 0 (pos 1) ∷ Ecall ∷ []
 
--- a number is added to the A field of the descriptor at an address
+-- a number of 64 bits is added to the A field of the descriptor at an address
 unfoldable pub add_part : ℕ → ℕ → List Instr
-add_part at n = constant 5 at ++ I Ld 6 5 (pos 0) ∷ constant 7 n ++ R Add 6 6 7 ∷ S Sd 5 6 (pos 0) ∷ []
+add_part at n = constant 5 at ++ I Ld 6 5 (pos 0) ∷ wide_constant 7 n ++ R Add 6 6 7 ∷ S Sd 5 6 (pos 0) ∷ []
 
 -- the descriptor at an address is copied to the cell at another, which becomes a descriptor
 unfoldable pub copy_part : ℕ → ℕ → List Instr
@@ -70,7 +80,7 @@ natural_of (negsuc n) = 0
 -- what follows the beginning of a statement
 abbrev pub body_of : Macro → List Arg → List Instr
 body_of Endex (Place d ∷ []) = check_code (natural_of d) ++ exit_part (natural_of d)
-body_of Incra (Place d ∷ Number n ∷ []) = check_code (natural_of d) ++ add_part (natural_of d) (natural_of n)
+body_of Incra (Place d ∷ Number n ∷ []) = check_code (natural_of d) ++ add_part (natural_of d) (cast_unsigned w64 n)
 body_of Movd (Place d1 ∷ Place d2 ∷ []) = check_code (natural_of d2) ++ copy_part (natural_of d1) (natural_of d2)
 body_of _ _ = []
 

@@ -1,10 +1,11 @@
 -- What emission takes, and what its code does.
-use Rattle.std.specs.Prelude.{◌≡◌, ℕ, ◌+◌, ◌*◌, ◌^◌, ◌<◌, ◌≤◌, ◌-◌, List, [], ◌∷◌, length, map, All, ℤ, pos, IsTrue}
+use Rattle.std.specs.Prelude.{◌≡◌, ℕ, ◌+◌, ◌*◌, ◌^◌, ◌<◌, ◌≤◌, List, [], ◌∷◌, length, map, All, ℤ, pos, IsTrue, FitsSigned}
+use Rattle.std.specs.Int.{w64}
 use Rattle.layout_params.specs.Sizes.{packed_16}
 use Rattle.layout_params.specs.Parameters.{Settings}
 use Rattle.sil_model.specs.declared.limits.TheConstants.{FIRST_CELL}
-use Rattle.sil_model.specs.declared.macros.Macro.{Macro}
-use Rattle.sil_model.specs.declared.macros.Macro.TheVariants.{Endex, Incra, Movd}
+use Rattle.sil_macros.specs.declared.names.Macro.{Macro}
+use Rattle.sil_macros.specs.declared.names.Macro.TheVariants.{Endex, Incra, Movd}
 use Rattle.sil_model.specs.declared.program.Arg.{Arg}
 use Rattle.sil_model.specs.declared.program.Arg.TheVariants.{Place, Number}
 use Rattle.sil_model.specs.declared.program.Program.{Program}
@@ -17,14 +18,10 @@ use Rattle.rv_emit.specs.Ways.{CarriesOut}
 abbrev pub IsStatic : ℕ → ℤ → Type 0
 IsStatic count at = (i : ℕ) × (i < count) × (at ≡ pos (FIRST_CELL + i * 16))
 
--- a number that one constant makes
-abbrev pub IsSmall : ℤ → Type 0
-IsSmall n = (c : ℕ) × (c < 2 ^ 31 - 2 ^ 11) × (n ≡ pos c)
-
--- the macros whose code is emitted so far, over static cells
+-- the macros whose code is emitted so far, over static cells, and by numbers of 64 bits
 abbrev pub HasCode : ℕ → Macro → List Arg → Type 0
 HasCode count Endex (Place d ∷ []) = IsStatic count d
-HasCode count Incra (Place d ∷ Number n ∷ []) = IsStatic count d × IsSmall n
+HasCode count Incra (Place d ∷ Number n ∷ []) = IsStatic count d × FitsSigned w64 n
 HasCode count Movd (Place d1 ∷ Place d2 ∷ []) = IsStatic count d1 × IsStatic count d2
 HasCode count _ _ = ⊥
 

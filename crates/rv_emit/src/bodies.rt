@@ -2,7 +2,10 @@
 ghost use Rattle.std.specs.Prelude.{◌≡◌, ◌+◌, ◌-◌, ◌<◌, ◌≤◌, ◌^◌};
 ghost use Rattle.rv_emit.specs.Code.{add_part, check_code, copy_part, exit_part, kind_place};
 
-use crate::instrs::{add, add_lower, load, load_upper, operate, skip, store};
+use crate::constants::upper_wide;
+use crate::instrs::{
+    add, add_lower, add_lower_wide, load, load_upper, operate, shift, skip, store,
+};
 use rv_isa::{BOp, IOp, Instr, ROp, SOp};
 
 /// Where the first cell stands, and the kind of the first cell.
@@ -55,20 +58,28 @@ pub fn exit_instrs(at: u32) -> [Instr; 6]
     ]
 }
 
-/// A number is added to the A field of the descriptor at an address.
+/// A number of 64 bits is added to the A field of the descriptor at an address.
 #[tactic(auto, unfolding(crate::specs::Code::add_part))]
-pub fn add_instrs(at: u32, n: u32) -> [Instr; 7]
+pub fn add_instrs(at: u32, n: u64) -> [Instr; 13]
     requires first { 0x4000_0000 ≤ at }
     requires last { at < 0x4000_0000 + 2 ^ 24 }
-    requires small { n < 2 ^ 31 - 2 ^ 11 }
     ensures { result ≡ add_part at n }
 {
+    let second = upper_wide(n);
+    let third = upper_wide(second);
+    let fourth = upper_wide(third) as u32;
     [
         load_upper(5, at),
         add_lower(5, at),
         load(IOp::Ld, 6, 0),
-        load_upper(7, n),
-        add_lower(7, n),
+        load_upper(7, fourth),
+        add_lower(7, fourth),
+        shift(7),
+        add_lower_wide(7, third),
+        shift(7),
+        add_lower_wide(7, second),
+        shift(7),
+        add_lower_wide(7, n),
         operate(ROp::Add, 6, 6, 7),
         store(SOp::Sd, 6, 0),
     ]

@@ -33,6 +33,25 @@ pub fn add(rd: u8, rs1: u8, imm: i16) -> Instr
 pub fn add_lower(rd: u8, n: u32) -> Instr
     ensures { result ≡ Instr.I IOp.Addi rd rd (lower_of n) }
 {
+    add(rd, rd, lower(n as u64))
+}
+
+/// The upper part of a number, with its place made for the lower 12 bits.
+pub fn shift(rd: u8) -> Instr
+    ensures { result ≡ Instr.I IOp.Slli rd rd (pos 12) }
+{
+    Instr::I {
+        op: IOp::Slli,
+        rd,
+        rs1: rd,
+        imm: 12,
+    }
+}
+
+/// The lower part of a number of 64 bits, added to its upper part.
+pub fn add_lower_wide(rd: u8, n: u64) -> Instr
+    ensures { result ≡ Instr.I IOp.Addi rd rd (lower_of n) }
+{
     add(rd, rd, lower(n))
 }
 

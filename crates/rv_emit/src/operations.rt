@@ -6,7 +6,8 @@ ghost use Rattle.rv_emit.specs.Emits.{HasCode};
 
 use crate::append::append;
 use crate::bodies::{add_instrs, check_instrs, copy_instrs, exit_instrs};
-use sil_model::{Arg, Macro, Statement};
+use sil_macros::Macro;
+use sil_model::{Arg, Statement};
 use std::alloc::AllocError;
 
 /// Appends the test that the static cell at an address is a descriptor.
@@ -28,11 +29,10 @@ fn append_exit(words: &mut Vec<u32>, at: u32) -> Result<(), AllocError>
     append(words, &exit_instrs(at))
 }
 
-/// Appends the sum of a number and the A field of the static cell at an address.
-fn append_add(words: &mut Vec<u32>, at: u32, n: u32) -> Result<(), AllocError>
+/// Appends the sum of a number of 64 bits and the A field of the static cell at an address.
+fn append_add(words: &mut Vec<u32>, at: u32, n: u64) -> Result<(), AllocError>
     requires first { 0x4000_0000 ≤ at }
     requires last { at < 0x4000_0000 + 2 ^ 24 }
-    requires small { n < 2 ^ 31 - 2 ^ 11 }
     ensures { OnOk result (words.new.items ≡ words.old.items ++ map word_of (check_code at ++ add_part at n)) }
 {
     append_check(words, at)?;
@@ -64,7 +64,7 @@ pub fn append_body(
     match (statement.name, statement.args.items()) {
         (Macro::Endex, [Arg::Place(at)]) => append_exit(words, *at as u32),
         (Macro::Incra, [Arg::Place(at), Arg::Number(n)]) => {
-            append_add(words, *at as u32, *n as u32)
+            append_add(words, *at as u32, n.cast_unsigned())
         }
         (Macro::Movd, [Arg::Place(to), Arg::Place(from)]) => {
             append_copy(words, *to as u32, *from as u32)
