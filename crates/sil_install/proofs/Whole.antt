@@ -10,7 +10,7 @@ use Rattle.layout_params.specs.declared.cell.Cell.TheVariants.{Descr, Chars}
 use Rattle.layout_params.specs.Sizes.{packed_16, flag_limit, value_limit}
 use Rattle.layout_params.specs.Packing.{packing, FitsFields}
 use Rattle.layout_params.specs.Parameters.{Settings}
-use Rattle.sil_model.specs.declared.macros.Macro.{Macro}
+use Rattle.sil_macros.specs.declared.names.Macro.{Macro}
 use Rattle.sil_model.specs.declared.program.Program.{Program}
 use Rattle.sil_model.specs.Memory.{FitsCell}
 use Rattle.sil_model.specs.Start.{limits_of, all_cells}

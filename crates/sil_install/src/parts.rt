@@ -5,7 +5,8 @@ ghost use Rattle.layout_params.specs.Packing.{FitsFields, packing};
 ghost use Rattle.image_file.specs.Parts.{kind_of};
 
 use layout_params::{Cell, Layout, pack_cell};
-use sil_model::{Macro, Statement};
+use sil_macros::Macro;
+use sil_model::Statement;
 use std::alloc::{AllocError, Global};
 
 /// The entry of a statement: its place, its card and its macro.
