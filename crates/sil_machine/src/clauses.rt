@@ -2,7 +2,8 @@
 ghost use Rattle.std.specs.Prelude.{◌≡◌};
 ghost use Rattle.sil_model.specs.Clauses.{after_flow, clause, endex, incra, movd};
 
-use sil_model::{Arg, Cells, Flow, Macro, number, place};
+use sil_macros::Macro;
+use sil_model::{Arg, Cells, Flow, number, place};
 
 /// `ENDEX D` ends as exit 0 where D.A is 0, else as exit 1.
 #[tactic(auto, unfolding(sil_model::specs::Clauses::endex))]
@@ -47,5 +48,6 @@ pub fn perform(name: Macro, args: &[Arg], cells: &mut Cells) -> Option<Flow>
         Macro::Endex => endex(args, cells),
         Macro::Incra => incra(args, cells),
         Macro::Movd => movd(args, cells),
+        _ => None,
     }
 }

@@ -10,7 +10,7 @@ mod tests;
 
 pub use machine::{Machine, Step, start};
 pub use sil_model::{
-    Action, Arg, Cells, End, Entry, FIRST_CELL, FIRST_ENTRY, Flow, Limits, Macro, Program,
-    Specials, Statement, Table, macro_at, number_of_macro,
+    Action, Arg, Cells, End, Entry, FIRST_CELL, FIRST_ENTRY, Flow, Limits, Program, Specials,
+    Statement, Table,
 };
 pub use simulation::sim;

@@ -5,8 +5,11 @@ ghost use Rattle.sil_model.specs.Start.{limits_of};
 ghost use Rattle.sil_model.specs.WellFormed.{FitsShape, IsWellFormed};
 
 use super::*;
-use layout_params::{Cell, Descr, Params};
+use layout_params::{
+    Cell, Descr, ParamStop, Params, STANDARD_PARAMS, read_params, standard_text_is_standard,
+};
 use sil_base::{Items, Units};
+use sil_macros::Macro;
 use std::alloc::{AllocError, Global};
 use std::test::Fail;
 
@@ -16,6 +19,14 @@ const X: i64 = 0x4000_0000;
 const Z: i64 = 0x4000_0010;
 
 const ONE: i64 = 0x4000_0020;
+
+fn standard_params(alloc: Global) -> Result<Params, ParamStop>
+    ensures standard { IfOk result (λ p. p ≡ standard) }
+    ensures legal { IfOk result AreLegal }
+{
+    standard_text_is_standard();
+    read_params(alloc, STANDARD_PARAMS)
+}
 
 fn endex(alloc: Global, d: i64) -> Result<Statement, AllocError>
     ensures { IfOk result FitsShape }
@@ -148,7 +159,7 @@ fn ends(
 #[test]
 fn an_exit_has_the_code_of_its_cell(rt: HostRuntime) -> Result<(), Fail> {
     let alloc = rt.alloc();
-    let params = Params::standard();
+    let params = standard_params(alloc)?;
     let zero = program(alloc, &params, 0, and(Vec::new(alloc), endex(alloc, X)?)?)?;
     assert!(rt; ends(alloc, &zero, &params, 1, End::Exit(0))?);
     assert!(rt; ends(alloc, &zero, &params, 0, End::Budget)?);
@@ -162,7 +173,7 @@ fn an_exit_has_the_code_of_its_cell(rt: HostRuntime) -> Result<(), Fail> {
 #[test]
 fn a_move_copies_and_an_increment_adds(rt: HostRuntime) -> Result<(), Fail> {
     let alloc = rt.alloc();
-    let params = Params::standard();
+    let params = standard_params(alloc)?;
     let moved = and(Vec::new(alloc), movd(alloc, X, ONE)?)?;
     let added = and(moved, incra(alloc, X, 2)?)?;
     let three = program(alloc, &params, 0, and(added, endex(alloc, X)?)?)?;
@@ -178,7 +189,7 @@ fn a_move_copies_and_an_increment_adds(rt: HostRuntime) -> Result<(), Fail> {
 #[test]
 fn sums_wrap(rt: HostRuntime) -> Result<(), Fail> {
     let alloc = rt.alloc();
-    let params = Params::standard();
+    let params = standard_params(alloc)?;
     let added = and(Vec::new(alloc), incra(alloc, X, 1)?)?;
     let least = program(alloc, &params, i64::MAX, and(added, endex(alloc, X)?)?)?;
     assert!(rt; ends(alloc, &least, &params, 2, End::Exit(1))?);
@@ -192,7 +203,7 @@ fn sums_wrap(rt: HostRuntime) -> Result<(), Fail> {
 #[test]
 fn what_has_no_meaning_is_undefined_at_its_statement(rt: HostRuntime) -> Result<(), Fail> {
     let alloc = rt.alloc();
-    let params = Params::standard();
+    let params = standard_params(alloc)?;
     let past = program(alloc, &params, 0, and(Vec::new(alloc), movd(alloc, X, X)?)?)?;
     assert!(rt; ends(alloc, &past, &params, 1, End::Undefined(1))?);
     let inside = program(
@@ -215,7 +226,7 @@ fn what_has_no_meaning_is_undefined_at_its_statement(rt: HostRuntime) -> Result<
 #[test]
 fn a_machine_that_has_ended_stays_so(rt: HostRuntime) -> Result<(), Fail> {
     let alloc = rt.alloc();
-    let params = Params::standard();
+    let params = standard_params(alloc)?;
     let zero = program(alloc, &params, 0, and(Vec::new(alloc), endex(alloc, X)?)?)?;
     let mut machine = start(alloc, &zero, &params)?;
     let mut units = Units::new();
