@@ -1,0 +1,38 @@
+-- The faults of data.
+use Rattle.std.specs.Prelude.{◌≡◌, ◌≢◌, ℕ, nat_le, List, [], length, Option, Some, None, ℤ, if◌then◌else◌, Bool, true, ◌&&◌}
+use Rattle.layout_params.specs.Parameters.{Parameters}
+use Rattle.layout_params.specs.Sizes.{flag_limit, value_limit}
+use Rattle.sil_base.specs.declared.line.Fault.{Fault}
+use Rattle.sil_macros.specs.declared.names.Macro.{Macro}
+use Rattle.sil_macros.specs.declared.names.Macro.TheVariants as macros
+use Rattle.sil_operands.specs.declared.expr.Term.{Term}
+use Rattle.sil_operands.specs.declared.operand.Operand.{Operand}
+use Rattle.sil_symbols.specs.declared.stmt.Stmt.{Stmt}
+use Rattle.sil_symbols.specs.Symbols.{value_of}
+use Rattle.sil_symbols.specs.Rules.{faults_from}
+use Rattle.data_asm.specs.Fields.{first_text, first_fields, second_fields, fit}
+use Rattle.data_asm.specs.declared.stop.DataStop.{DataStop}
+use Rattle.data_asm.specs.declared.stop.DataStop.TheVariants as stop
+
+-- each F of a statement, and each V or L, is within its limit
+abbrev pub data_fits : ℕ → ℕ → (List Term → Option ℤ) → Macro → List Operand → Bool
+data_fits flags most values macros.Descr operands = fit flags most (first_fields values operands)
+data_fits flags most values macros.Spec operands = fit flags most (first_fields values operands) && fit flags most (second_fields values operands)
+data_fits flags most values macros.String operands = nat_le (length (first_text operands)) most
+data_fits flags most values _ operands = true
+
+abbrev pub statement_fits : Parameters → List Stmt → Stmt → Bool
+statement_fits p source s = data_fits (flag_limit p.settings.sizes) (value_limit p.settings.sizes) (value_of p source) s.name s.operands
+
+-- A1: an F, a V or an L isn't within its limit
+abbrev pub data_rule : Parameters → List Stmt → ℕ → Stmt → Option ℕ
+data_rule p source place s = if statement_fits p source s then None else Some 1
+
+-- the faults of the data of a source, whose letter is A
+unfoldable pub data_faults : Parameters → List Stmt → List Fault
+data_faults p source = faults_from 65 (data_rule p source) 0 source
+
+-- a stop by faults is by those that there are
+abbrev pub IsStopFor : List Fault → DataStop → Type 0
+IsStopFor faults (stop.Faults found) = (faults ≡ found) × (found ≢ [])
+IsStopFor faults stop.Memory = Unit {0}
