@@ -1,3 +1,6 @@
-mod TextLemmas
-mod CardLemmas
-mod ProgramLemmas
+pub mod StandardLemmas
+pub mod Made
+pub mod Resolved
+pub mod CardLemmas
+pub mod VerdictLemmas
+pub mod ProgramLemmas

@@ -1,30 +1,50 @@
--- Texts and cards as the code holds them.
-use Rattle.std.specs.Prelude.{ℕ, List, [], ◌∷◌, map}
-use Rattle.std.specs.Borrow.{Bor}
-use Rattle.sil_model.specs.declared.macros.Macro.{Macro}
-use Rattle.sil_model.specs.declared.macros.Macro.TheVariants as macros
-use Rattle.sil_check.specs.Cards.{Operand, Name, Value, Card, Execute, Descr}
-use Rattle.sil_check.specs.declared.cards.Card.{Card as HeldCard}
-use Rattle.sil_check.specs.declared.cards.Card.TheVariants.{Execute as HeldExecute, Descr as HeldDescr}
-use Rattle.sil_check.specs.declared.cards.Operation.{Operation}
-use Rattle.sil_check.specs.declared.cards.Operation.TheVariants.{Endex, Incra, Movd}
+-- What the code answers on the way.
+use Rattle.std.specs.Prelude.{◌≡◌, List, length, All, Option, Some, None, true}
+use Rattle.std.specs.List.{list_all}
+use Rattle.layout_params.specs.Parameters.{Parameters, AreLegal}
+use Rattle.layout_params.specs.Sizes.{packed_16}
+use Rattle.sil_symbols.specs.declared.stmt.Stmt.{Stmt}
+use Rattle.sil_symbols.specs.Symbols.{extent, IsWithinLimits}
+use Rattle.sil_symbols.specs.declared.symbols.SymbolStop.{SymbolStop}
+use Rattle.sil_symbols.specs.declared.symbols.SymbolStop.TheVariants as symbols
+use Rattle.data_asm.specs.declared.DataStop.{DataStop}
+use Rattle.data_asm.specs.declared.DataStop.TheVariants as data_stop
+use Rattle.sil_model.specs.declared.program.Program.{Program}
+use Rattle.sil_model.specs.declared.program.Statement.{Statement}
+use Rattle.sil_model.specs.Memory.{FitsCell}
+use Rattle.sil_model.specs.Start.{limits_of}
+use Rattle.sil_check.specs.declared.stop.CheckStop.{CheckStop}
+use Rattle.sil_check.specs.declared.stop.CheckStop.TheVariants as stop
+use Rattle.sil_check.specs.Arguments.{FitsNumber}
+use Rattle.sil_check.specs.Programs.{program_over}
+use Rattle.sil_check.specs.Verdicts.{is_built}
 
-abbrev pub texts_of : List (Bor (List ℕ)) → List (List ℕ)
-texts_of texts = map (λ text. text.now) texts
+-- a stop of the crates below
+abbrev pub symbol_stop : SymbolStop → CheckStop
+symbol_stop (symbols.Faults faults) = stop.Faults faults
+symbol_stop symbols.Memory = stop.Memory
 
-abbrev pub macro_held : Operation → Macro
-macro_held (Endex name) = macros.Endex
-macro_held (Incra name value) = macros.Incra
-macro_held (Movd to from) = macros.Movd
+abbrev pub assembly_stop : DataStop → CheckStop
+assembly_stop (data_stop.Faults faults) = stop.Faults faults
+assembly_stop data_stop.Memory = stop.Memory
 
-abbrev pub operands_held : Operation → List Operand
-operands_held (Endex name) = Name name.now ∷ []
-operands_held (Incra name value) = Name name.now ∷ Value value ∷ []
-operands_held (Movd to from) = Name to.now ∷ Name from.now ∷ []
+-- a stop where this is made, if anything is: want of memory, or nothing is made
+abbrev pub IsUnmade : {A : Type 0} → Option A → CheckStop → Type 0
+IsUnmade made (stop.Faults faults) = ⊥
+IsUnmade made stop.NotBuilt = made ≡ None
+IsUnmade made stop.Memory = Unit {0}
 
-abbrev pub card_held : HeldCard → Card
-card_held (HeldExecute operation) = Execute (macro_held operation) (operands_held operation)
-card_held (HeldDescr label value) = Descr label.now value
+-- each number that is an operand has 64 bits
+abbrev pub HasFitNumbers : Statement → Type 0
+HasFitNumbers s = All FitsNumber s.args
 
-abbrev pub cards_held : List HeldCard → List Card
-cards_held cards = map card_held cards
+-- the program of a source that was checked, over its cells
+pub record IsProgramOf (p : Parameters) (source : List Stmt) (program : Program) : Type 0 where
+  pub legal : AreLegal p
+  pub standard : p.settings.sizes ≡ packed_16
+  pub limits : IsWithinLimits p source
+  pub built : list_all is_built source ≡ true
+  pub fit : All (FitsCell (limits_of p.settings)) program.cells
+  pub count : length program.cells ≡ (extent p source).cells
+  pub numbers : All HasFitNumbers program.statements
+  pub made : program_over p source program.cells ≡ Some program

@@ -1,4 +1,8 @@
-pub mod Texts
-pub mod Cards
-pub mod Held
+pub mod Statements
+pub mod Shapes
+pub mod Standard
+pub mod Arguments
+pub mod Specials
 pub mod Programs
+pub mod Verdicts
+pub mod Held

@@ -1,12 +1,17 @@
-// From the bytes of a source to its program.
+// From the cards of a source to its program.
 #![tactic(auto)]
 
-mod cards;
-mod labels;
+mod arguments;
 mod program;
+mod shapes;
 mod source;
+mod specials;
+mod standard;
+mod statements;
+mod stop;
 #[cfg(test)]
 mod tests;
-mod texts;
 
-pub use source::{CheckStop, check};
+pub use shapes::fits;
+pub use source::check;
+pub use stop::CheckStop;

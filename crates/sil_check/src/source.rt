@@ -1,55 +1,96 @@
-// The program of a source.
-ghost use Rattle.std.specs.Prelude.{◌≡◌, ◌<◌, length, All, Some, None, IfOk, IfErr};
-ghost use Rattle.sil_check.specs.Programs.{program_of, IsDescriptor, HasOperands};
-ghost use Rattle.layout_params.specs.Parameters.{standard};
+// From the cards of a source to its program.
+ghost use Rattle.std.specs.Prelude.{◌≡◌, ◌≤◌, [], length, All, Ok, IfOk, MatchResult, true};
+ghost use Rattle.std.specs.List.{list_all};
+ghost use Rattle.layout_params.specs.Sizes.{packed_16};
+ghost use Rattle.sil_cards.specs.Cards.{AreCards};
 ghost use Rattle.sil_model.specs.WellFormed.{IsWellFormed};
+ghost use Rattle.sil_symbols.specs.Rules.{EndsOnce};
+ghost use Rattle.sil_check.specs.Arguments.{HasOperands};
+ghost use Rattle.sil_check.specs.Held.{IsProgramOf};
+ghost use Rattle.sil_check.specs.Verdicts.{is_built_macro, is_built, verdict_of, verdict, IsStopFor};
 
-use crate::cards::cards_of;
-use crate::program::program_of_cards;
+use crate::program::program_of;
+use crate::shapes::fits;
+use crate::standard::is_standard;
+use crate::statements::statements_of;
+use crate::stop::CheckStop;
+use data_asm::assemble;
+use layout_params::Params;
+use sil_cards::Card;
+use sil_macros::{Macro, is_assembly};
 use sil_model::Program;
-use std::alloc::{AllocError, AllocFailed, Global};
+use sil_symbols::{Stmt, resolve};
+use std::alloc::Global;
 
-/// Why no program was made.
-#[derive(Debug, Drop)]
-pub enum CheckStop {
-    /// The source has no program.
-    NotBuilt,
-    /// Memory ran out.
-    Memory,
-}
-
-impl From<AllocError> for CheckStop {
-    ghost use Rattle.sil_check.specs.declared.source.CheckStop.TheVariants.{Memory};
-
-    ghost from_gives = { λ _ e. e ≡ Memory };
-
-    fn from(_error: AllocError) -> CheckStop {
-        CheckStop::Memory
+/// Whether a macro is installed so far.
+fn is_built_macro(name: Macro) -> bool
+    ensures { result ≡ is_built_macro name }
+{
+    match name {
+        Macro::Movd | Macro::Incra | Macro::Endex => true,
+        Macro::Format => false,
+        _ => is_assembly(name),
     }
 }
 
-impl<T: Drop> From<AllocFailed<T>> for CheckStop {
-    ghost use Rattle.sil_check.specs.declared.source.CheckStop.TheVariants.{Memory};
-
-    ghost from_gives = { λ _ e. e ≡ Memory };
-
-    fn from(_error: AllocFailed<T>) -> CheckStop {
-        CheckStop::Memory
-    }
+fn is_built(statement: &Stmt) -> bool
+    ensures { result ≡ is_built statement.now }
+{
+    is_built_macro(statement.name) && fits(statement.name, &statement.operands)
 }
 
-/// The program of a source.
-pub fn check(alloc: Global, source: &[u8]) -> Result<Program, CheckStop>
-    ensures ok { IfOk result (λ p. program_of source.now ≡ Some p) }
-    ensures not_built { IfErr result (λ e. e ≡ CheckStop.NotBuilt
-        → program_of source.now ≡ None) }
-    ensures well_formed { IfOk result (λ p. IsWellFormed p standard.settings) }
-    ensures descriptors { IfOk result (λ p. All IsDescriptor p.cells) }
+fn are_built(statements: &[Stmt]) -> bool
+    ensures { result ≡ list_all is_built statements.now }
+{
+    statements.iter().all(|statement| is_built(statement))
+}
+
+/// The program of the statements of a source, or why there is none.
+fn check_statements(
+    alloc: Global,
+    statements: &[Stmt],
+    tables: &[u8],
+    params: &Params,
+) -> Result<Program, CheckStop>
+    requires few { length statements.now ≤ 40000 }
+    requires ended { EndsOnce statements.now }
+    ensures verdict { let answer = verdict_of params.now statements.now tables.now
+        in MatchResult result (λ p. answer ≡ Ok p) (IsStopFor answer) }
+    ensures made { IfOk result (IsProgramOf params.now statements.now) }
+{
+    let symbols = resolve(alloc, statements, params)?;
+    if !are_built(statements) {
+        return Err(CheckStop::NotBuilt);
+    }
+    let cells = assemble(alloc, statements, &symbols, params)?;
+    if !tables.is_empty() || !is_standard(params) {
+        return Err(CheckStop::NotBuilt);
+    }
+    program_of(alloc, params, statements, &symbols, cells)
+}
+
+/// The program of cards that were read, or why there is none. Faults of lines come first, those of
+/// names (N), then those of values (V), and after the shapes of statements those of data (A). A
+/// source is not built so far where a statement is a FORMAT, has operands that don't fit its macro
+/// or is neither of the assembly nor MOVD, INCRA or ENDEX; where there are tables; in another
+/// layout than the standard one; and where a descriptor that is an operand is none of a data
+/// statement.
+pub fn check(
+    alloc: Global,
+    cards: &[Card],
+    tables: &[u8],
+    params: &Params,
+) -> Result<Program, CheckStop>
+    requires few { length cards.now ≤ 40000 }
+    requires good { AreCards cards.now }
+    ensures verdict { let answer = verdict cards.now tables.now params.now
+        in MatchResult result (λ p. answer ≡ Ok p) (IsStopFor answer) }
+    ensures well_formed { IfOk result (λ p. IsWellFormed p params.now.settings) }
+    ensures standard { IfOk result (λ p. params.now.settings.sizes ≡ packed_16) }
+    ensures no_tables { IfOk result (λ p. p.tables ≡ []) }
     ensures operands { IfOk result (λ p.
         All (λ s. HasOperands (length p.cells) s.name s.args) p.statements) }
-    ensures cells_below { IfOk result (λ p. length p.cells < 1000) }
-    ensures statements_below { IfOk result (λ p. length p.statements < 1000) }
 {
-    let cards = cards_of(alloc, source)?;
-    program_of_cards(alloc, &cards)
+    let statements = statements_of(alloc, cards)?;
+    check_statements(alloc, &statements, tables, params)
 }

@@ -1,44 +1,148 @@
 // Sources and their programs.
-use crate::{CheckStop, check};
-use layout_params::{Cell, Descr};
-use sil_model::{Macro, Statement, number, place};
-use std::alloc::{AllocError, Global};
+use crate::{CheckStop, check, fits};
+use layout_params::{Cell, Descr, STANDARD_PARAMS, read_params};
+use sil_base::MemoryStore;
+use sil_cards::read_cards;
+use sil_macros::Macro;
+use sil_model::{Program, Statement, number, place};
+use sil_operands::read_operands;
+use std::alloc::Global;
 
-const REFUSED: [&[u8]; 22] = [
-    b"",
-    b" END",
-    b" ENDEX Z\nZ DESCR\n",
-    b" ENDEX Y\nZ DESCR\n END\n",
-    b"Z DESCR\nZ DESCR 1\n END\n",
-    b"CPA DESCR\n END\n",
-    b" ENDEX  Z\nZ DESCR\n END\n",
-    b"Z DESCR  1\n END\n",
-    b"Z DESCR 1 \n END\n",
-    b"Z DESCR 1000000000\n END\n",
-    b"Z DESCR -1\n END\n",
-    b"ABCDEFGHIJKLMNOPQ DESCR\n END\n",
-    b"1A DESCR\n END\n",
-    b"A ENDEX Z\nZ DESCR\n END\n",
-    b"Z SPEC\n END\n",
-    b" END\n END\n",
-    b" MOVD X\nX DESCR\n END\n",
-    b" MOVD X,Y,Z\nX DESCR\nY DESCR\nZ DESCR\n END\n",
-    b" MOVD X, Y\nX DESCR\nY DESCR\n END\n",
-    b" INCRA X,X\nX DESCR\n END\n",
-    b" INCRA X,1234567890\nX DESCR\n END\n",
-    b" MOVD X,NOWHERE\nX DESCR\n END\n",
-];
+const WIDE_PARAMS: &[u8] =
+    b"DESCR 24\nAOFF 0\nFOFF 8\nFLEN 4\nVOFF 16\nVLEN 8\nFNC 1\nMARK 2\nPTR 4\nSTTL 8\nTTL 16\nSTSIZE 64\nDYNSIZ 100\nOBSIZ 256\nUNITI 5\nUNITO 6\nUNITP 7\nDATE 01/01/70\n";
 
-fn is_not_built(alloc: Global, source: &[u8]) -> bool {
-    match check(alloc, source) {
-        Ok(_) => false,
-        Err(CheckStop::NotBuilt) => true,
-        Err(CheckStop::Memory) => false,
-    }
+/// What a check answers: a program, or one fault by its line, letter and rule.
+#[derive(Clone, Copy, PartialEq, Eq, Debug)]
+enum Outcome {
+    Built,
+    NotBuilt,
+    Broken(u32, u8, u8),
+    Other,
 }
 
-fn card_and_place(statement: &Statement) -> (u32, Option<i64>) {
-    (statement.card, place(statement.args.items(), 0))
+const SOURCES: [(&[u8], Outcome); 25] = [
+    (b" MOVD X,X\nX DESCR\n END\n", Outcome::Built),
+    (b" END X,(\n", Outcome::Built),
+    (b" MOVD X,Q\nX DESCR\n END\n", Outcome::Broken(1, b'N', 3)),
+    (
+        b" MOVD X\nX DESCR\nX DESCR\n END\n",
+        Outcome::Broken(3, b'N', 1),
+    ),
+    (
+        b" MOVD X\nX DESCR A\nA EQU A\n END\n",
+        Outcome::Broken(3, b'V', 1),
+    ),
+    (b" MOVD X\nX DESCR\n END\n", Outcome::NotBuilt),
+    (b" MOVD X,X,X\nX DESCR\n END\n", Outcome::NotBuilt),
+    (b" MOVD X,(X)\nX DESCR\n END\n", Outcome::NotBuilt),
+    (b" BRANCH X\nX ENDEX Z\nZ DESCR\n END\n", Outcome::NotBuilt),
+    (b"F FORMAT '(I3)'\n END\n", Outcome::NotBuilt),
+    (b"S STRING\n END\n", Outcome::NotBuilt),
+    (b"X DESCR 1,2,3,4\n END\n", Outcome::NotBuilt),
+    (b"X DESCR 0,65535,4294967295\n END\n", Outcome::Built),
+    (b"X DESCR 0,65536\n END\n", Outcome::Broken(1, b'A', 1)),
+    (
+        b"X DESCR 0,0,4294967296\n END\n",
+        Outcome::Broken(1, b'A', 1),
+    ),
+    (b"X DESCR 0,65536\n BRANCH X\n END\n", Outcome::NotBuilt),
+    (
+        b" MOVD A+32,S\n MOVD S+16,P+16\nA ARRAY 3\nS STRING 'AB'\nP SPEC\n END\n",
+        Outcome::Built,
+    ),
+    (b" ENDEX S+32\nS STRING 'AB'\n END\n", Outcome::NotBuilt),
+    (b" ENDEX B\nB BUFFER 1\n END\n", Outcome::NotBuilt),
+    (b" ENDEX X+16\nX DESCR\n END\n", Outcome::NotBuilt),
+    (b" ENDEX X-16\nX DESCR\n END\n", Outcome::NotBuilt),
+    (b" ENDEX X+8\nX DESCR\n END\n", Outcome::NotBuilt),
+    (b" ENDEX -1\n END\n", Outcome::NotBuilt),
+    (b" ENDEX 1073741824\nX DESCR\n END\n", Outcome::Built),
+    (b"X ENDEX X\n END\n", Outcome::NotBuilt),
+];
+
+/// A macro, an operand field, and whether the operands have the macro's shape.
+const SHAPES: [(Macro, &[u8], bool); 48] = [
+    (Macro::Movd, b"A,B", true),
+    (Macro::Movd, b"-A+1,B*2", true),
+    (Macro::Movd, b"A,B,,", true),
+    (Macro::Movd, b"A", false),
+    (Macro::Movd, b",B", false),
+    (Macro::Movd, b"A,B,C", false),
+    (Macro::Movd, b"A,(B)", false),
+    (Macro::Movd, b"A,'B'", false),
+    (Macro::Init, b"", true),
+    (Macro::Init, b",", true),
+    (Macro::Init, b"A", false),
+    (Macro::Descr, b"", true),
+    (Macro::Descr, b",,V", true),
+    (Macro::Descr, b"1,2,3,4", false),
+    (Macro::Array, b"", false),
+    (Macro::String, b"'A'", true),
+    (Macro::String, b"A", false),
+    (Macro::String, b"", false),
+    (Macro::Setf, b"D,1", true),
+    (Macro::Setf, b"D", false),
+    (Macro::Acomp, b"A,B", true),
+    (Macro::Acomp, b"A,B,,X+1", true),
+    (Macro::Acomp, b"A,B,(X)", false),
+    (Macro::Branch, b"X", true),
+    (Macro::Branch, b",X", false),
+    (Macro::Branch, b"X,'E'", false),
+    (Macro::Clertb, b"+T,+ERROR", true),
+    (Macro::Clertb, b"T,STOPSH", true),
+    (Macro::Clertb, b"T,GOTO", false),
+    (Macro::Clertb, b"T,-STOP", false),
+    (Macro::Clertb, b"-T,CONTIN", false),
+    (Macro::Clertb, b"T*1,CONTIN", false),
+    (Macro::Clertb, b"5,CONTIN", false),
+    (Macro::Output, b"U,F", true),
+    (Macro::Output, b"U,F,A", true),
+    (Macro::Output, b"U,F,(A,B)", true),
+    (Macro::Output, b"U,F,(A,)", false),
+    (Macro::Output, b"U,F+1", false),
+    (Macro::Output, b"U,'F'", false),
+    (Macro::Push, b"", false),
+    (Macro::Push, b"()", false),
+    (Macro::Spush, b"(S,S+1)", true),
+    (Macro::Selbra, b"D", true),
+    (Macro::Selbra, b"D,(,B)", true),
+    (Macro::Selbra, b"D,'B'", false),
+    (Macro::Rcall, b",P,,(,B)", true),
+    (Macro::Rcall, b"D,,(A)", false),
+    (Macro::Proc, b"(X)", false),
+];
+
+/// The program of a source, by its tables file and its parameter file.
+fn checked(
+    alloc: Global,
+    source: &[u8],
+    tables: &[u8],
+    params: &[u8],
+) -> Result<Program, CheckStop> {
+    let mut store = MemoryStore::new(alloc, Vec::new(alloc));
+    store.set("SRC", source)?;
+    if params.len() > 2_097_152 {
+        return Err(CheckStop::Memory);
+    }
+    let Ok(params) = read_params(alloc, params) else {
+        return Err(CheckStop::Memory);
+    };
+    let Ok(cards) = read_cards(alloc, &mut store, "SRC") else {
+        return Err(CheckStop::Memory);
+    };
+    check(alloc, &cards, tables, &params)
+}
+
+fn answered(answer: &Result<Program, CheckStop>) -> Outcome {
+    match answer {
+        Ok(_) => Outcome::Built,
+        Err(CheckStop::NotBuilt) => Outcome::NotBuilt,
+        Err(CheckStop::Faults(faults)) => match faults.items() {
+            [fault] => Outcome::Broken(fault.line.number, fault.code.letter, fault.code.rule),
+            _ => Outcome::Other,
+        },
+        Err(CheckStop::Memory) => Outcome::Other,
+    }
 }
 
 /// The card of a statement, its macro, and its operands as places and as a number.
@@ -53,95 +157,64 @@ fn row(statement: &Statement) -> (u32, Macro, Option<i64>, Option<i64>, Option<i
     )
 }
 
-fn descriptor(a: i64) -> Cell {
-    Cell::Descr(Descr { a, f: 0, v: 0 })
-}
-
-/// A source of a data card, so many ENDEX of it, and the last line.
-fn endings(alloc: Global, count: usize) -> Result<Vec<u8>, AllocError> {
-    let mut source = Vec::from_slice(alloc, b"Z DESCR\n".as_slice())?;
-    for _ in 0..count {
-        source.extend_from_slice(b" ENDEX Z\n")?;
+#[test]
+fn sources_and_their_answers(rt: HostRuntime) {
+    for (source, expected) in SOURCES.iter() {
+        let answer = checked(rt.alloc(), source, b"", STANDARD_PARAMS);
+        assert_eq!(rt; answered(&answer), *expected);
     }
-    source.extend_from_slice(b" END\n")?;
-    Ok(source)
 }
 
 #[test]
-fn endex_of_a_cell(rt: HostRuntime) {
-    let program = check(rt.alloc(), b" ENDEX Z\nZ DESCR\n END\n").expect(&rt, "a program");
-    for statement in program.statements.items() {
-        assert_eq!(rt; card_and_place(statement), (1, Some(0x4000_0000)));
-    }
-    assert_eq!(rt; program.statements.items().len(), 1);
-    assert_eq!(rt; program.cells.items(), [descriptor(0)].as_slice());
+fn tables_and_other_layouts_are_not_built(rt: HostRuntime) {
+    let source = b" ENDEX Z\nZ DESCR\n END\n";
+    let tables = checked(rt.alloc(), source, b"\n", STANDARD_PARAMS);
+    assert_eq!(rt; answered(&tables), Outcome::NotBuilt);
+    let wide = checked(rt.alloc(), source, b"", WIDE_PARAMS);
+    assert_eq!(rt; answered(&wide), Outcome::NotBuilt);
+    let broken = checked(rt.alloc(), b" ENDEX Q\n END\n", b"\n", WIDE_PARAMS);
+    assert_eq!(rt; answered(&broken), Outcome::Broken(1, b'N', 3));
 }
 
 #[test]
-fn cells_in_order(rt: HostRuntime) {
-    let source = b"Z DESCR\nI DESCR 999999999\n ENDEX I\n END\n";
-    let program = check(rt.alloc(), source).expect(&rt, "a program");
-    for statement in program.statements.items() {
-        assert_eq!(rt; card_and_place(statement), (3, Some(0x4000_0010)));
+fn operands_have_shapes(rt: HostRuntime) {
+    for (name, field, expected) in SHAPES.iter() {
+        let operands = read_operands(rt.alloc(), field).expect(&rt, "operands");
+        assert_eq!(rt; fits(*name, &operands), *expected);
     }
-    assert_eq!(rt;
-        program.cells.items(),
-        [descriptor(0), descriptor(999_999_999)].as_slice()
-    );
-    assert_eq!(rt; program.specials.int_code, Some(0x4000_0010));
-    assert_eq!(rt; program.specials.stype, None);
 }
 
 #[test]
-fn operands_in_order(rt: HostRuntime) {
-    let source = b" MOVD X,ONE\n INCRA X,2\n ENDEX X\nX DESCR\nONE DESCR 1\n END\n";
-    let program = check(rt.alloc(), source).expect(&rt, "a program");
-    let (x, one) = (Some(0x4000_0000), Some(0x4000_0010));
+fn statements_in_order(rt: HostRuntime) {
+    let source =
+        b"* three\n MOVD X,A+2*DESCR\nA ARRAY 3\n INCRA X,-9223372036854775807-1\nX DESCR 7,1,2\n ENDEX X-DESCR\n END\n";
+    let program = checked(rt.alloc(), source, b"", STANDARD_PARAMS).expect(&rt, "a program");
+    let (x, last) = (Some(0x4000_0030), Some(0x4000_0020));
     let rows = [
-        (1, Macro::Movd, x, one, None),
-        (2, Macro::Incra, x, None, Some(2)),
-        (3, Macro::Endex, x, None, None),
+        (2, Macro::Movd, x, last, None),
+        (4, Macro::Incra, x, None, Some(i64::MIN)),
+        (6, Macro::Endex, last, None, None),
     ];
     for (statement, expected) in program.statements.items().iter().zip(rows.iter()) {
         assert_eq!(rt; row(statement), *expected);
     }
     assert_eq!(rt; program.statements.items().len(), 3);
+    let zero = Cell::Descr(Descr { a: 0, f: 0, v: 0 });
+    let seven = Cell::Descr(Descr { a: 7, f: 1, v: 2 });
+    assert_eq!(rt; program.cells.items(), [zero, zero, zero, seven].as_slice());
+}
+
+#[test]
+fn special_symbols(rt: HostRuntime) {
+    let source =
+        b"I EQU 4294967295\n ENDEX Z\nOVER ENDEX Z\nINTR10 LHERE\nZ DESCR\nSTYPE DESCR\nFRSGPT EQU -5\n END\n";
+    let program = checked(rt.alloc(), source, b"", STANDARD_PARAMS).expect(&rt, "a program");
+    let specials = program.specials;
+    assert_eq!(rt; (specials.over, specials.under), (Some(1), None));
     assert_eq!(rt;
-        program.cells.items(),
-        [descriptor(0), descriptor(1)].as_slice()
+        (specials.stype, specials.first),
+        (Some(0x4000_0010), Some(-5))
     );
-}
-
-#[test]
-fn an_empty_program(rt: HostRuntime) {
-    let program = check(rt.alloc(), b" END\n").expect(&rt, "a program");
-    assert_eq!(rt; program.statements.items().len(), 0);
-    assert_eq!(rt; program.cells.items().len(), 0);
-}
-
-#[test]
-fn refused_sources(rt: HostRuntime) {
-    for source in REFUSED.iter() {
-        assert!(rt; is_not_built(rt.alloc(), source));
-    }
-}
-
-#[test]
-fn at_most_a_thousand_lines(rt: HostRuntime) {
-    let alloc = rt.alloc();
-    let most = endings(alloc, 998).expect(&rt, "memory");
-    let program = check(alloc, &most).expect(&rt, "a program");
-    assert_eq!(rt; program.statements.items().len(), 998);
-    let more = endings(alloc, 999).expect(&rt, "memory");
-    assert!(rt; is_not_built(alloc, &more));
-}
-
-#[test]
-fn lines_of_at_most_256_bytes(rt: HostRuntime) {
-    let alloc = rt.alloc();
-    let mut source = vec![in alloc; b'A'; 249].expect(&rt, "memory");
-    source
-        .extend_from_slice(b" DESCR 1\n END\n")
-        .expect(&rt, "memory");
-    assert!(rt; is_not_built(alloc, &source));
+    assert_eq!(rt; (specials.head, specials.tail), (None, None));
+    assert_eq!(rt; specials.int_code, Some(4_294_967_295));
 }

@@ -1,25 +1,21 @@
-use Rattle.std.specs.Prelude.{◌≡◌, Some}
+use Rattle.std.specs.Prelude.{◌≡◌}
+use Rattle.std.proofs.Common.{subst, sym, ◌∙◌}
 use Rattle.std.proofs.lemmas.Result.{IfOk-weaker}
-use Rattle.sil_model.specs.declared.program.Program.{Program}
-use Rattle.sil_check.specs.Held.{cards_held}
-use Rattle.sil_check.specs.Programs.{program_of_cards}
-use Rattle.sil_check.proofs.ProgramLemmas.{IsOfSource, of_source}
+use Rattle.sil_symbols.specs.Rules.{EndsOnce}
+use Rattle.sil_check.specs.Statements.{statements_of}
+use Rattle.sil_check.proofs.CardLemmas.{ended}
+use Rattle.sil_check.proofs.ProgramLemmas.{checked}
 use Rattle.sil_check.proofs.source.check.Goals as goal
 
-facts : (c : goal.After-drop-cards) (p : Program) → program_of_cards (cards_held c.deref.result.now) ≡ Some p → IsOfSource p
-facts c p e = of_source c.args.source.now (cards_held c.deref.result.now) p (rw c.deref.ensures.value c.in_ok-cards.ensures.ok) e
+-- the statements are those of the cards
+same : (c : goal.After-deref) → c.deref.result.now ≡ statements_of c.args.cards.now
+same c = c.deref.ensures.value ∙ c.in_ok-statements.ensures
+
+pub check_statements-requires-clause-ended : goal.check_statements-requires-clause-ended
+check_statements-requires-clause-ended c = subst EndsOnce (sym (same c)) (ended c.args.cards.now c.requires.good.good c.requires.good.ends)
 
 pub returns-clause-well_formed : goal.returns-clause-well_formed
-returns-clause-well_formed c = IfOk-weaker c.program_of_cards.result _ _ (λ p e. (facts c p e).well_formed) c.program_of_cards.ensures.ok
-
-pub returns-clause-descriptors : goal.returns-clause-descriptors
-returns-clause-descriptors c = IfOk-weaker c.program_of_cards.result _ _ (λ p e. (facts c p e).descriptors) c.program_of_cards.ensures.ok
+returns-clause-well_formed c = IfOk-weaker c.check_statements.result _ _ (λ p h. (checked c.args.params.now c.deref.result.now p h).well_formed) c.check_statements.ensures.made
 
 pub returns-clause-operands : goal.returns-clause-operands
-returns-clause-operands c = IfOk-weaker c.program_of_cards.result _ _ (λ p e. (facts c p e).operands) c.program_of_cards.ensures.ok
-
-pub returns-clause-cells_below : goal.returns-clause-cells_below
-returns-clause-cells_below c = IfOk-weaker c.program_of_cards.result _ _ (λ p e. (facts c p e).cells) c.program_of_cards.ensures.ok
-
-pub returns-clause-statements_below : goal.returns-clause-statements_below
-returns-clause-statements_below c = IfOk-weaker c.program_of_cards.result _ _ (λ p e. (facts c p e).statements) c.program_of_cards.ensures.ok
+returns-clause-operands c = IfOk-weaker c.check_statements.result _ _ (λ p h. (checked c.args.params.now c.deref.result.now p h).operands) c.check_statements.ensures.made

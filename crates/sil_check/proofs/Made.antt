@@ -1,0 +1,78 @@
+-- Lists that are made item by item.
+use Rattle.std.proofs.Common.{◌≡◌, ℕ, ◌+◌, ◌<◌, ◌≤◌, suc, Bool, true, false, cond, List, [], ◌∷◌, ◌++◌, length, get_or, drop, Option, Some, None, refl, sym, ap, ◌∙◌, append_assoc, add-one, arith}
+use Rattle.std.specs.Prelude.{option_map, ℤ}
+use Rattle.std.proofs.Math.Seq.{drop-cons}
+use Rattle.std.proofs.lemmas.List.{length-drop}
+use Rattle.layout_params.specs.declared.cell.Cell.{Cell}
+use Rattle.sil_macros.specs.declared.shapes.Place.{Place}
+use Rattle.sil_macros.specs.Rows.{row}
+use Rattle.sil_operands.specs.declared.expr.Term.{Term}
+use Rattle.sil_operands.specs.declared.operand.Operand.{Operand}
+use Rattle.sil_symbols.specs.declared.stmt.Stmt.{Stmt}
+use Rattle.sil_model.specs.declared.program.Arg.{Arg}
+use Rattle.sil_model.specs.declared.program.Statement.{Statement}
+use Rattle.sil_check.specs.Arguments.{and_before, arg_of, args_of}
+use Rattle.sil_check.specs.Programs.{machine_statement, machine_statements}
+
+-- the items that are made already stand before those that are made next
+abbrev pub after : {A : Type 0} → List A → Option (List A) → Option (List A)
+after made rest = option_map (λ xs. made ++ xs) rest
+
+pub after_none : {A : Type 0} (rest : Option (List A)) → after [] rest ≡ rest
+after_none None = refl
+after_none (Some xs) = refl
+
+pub after_push : {A : Type 0} (made : List A) (x : A) (rest : Option (List A)) → after made (and_before (Some x) rest) ≡ after (made ++ x ∷ []) rest
+after_push made x None = refl
+after_push made x (Some xs) = ap Some (sym (append_assoc made (x ∷ []) xs))
+
+pub empty : {A : Type 0} (xs : List A) → length xs ≡ 0 → xs ≡ []
+empty [] h = refl
+empty (x ∷ xs) h = absurd (omega arith)
+
+-- ---- operands
+
+first_left : {A : Type 0} (xs : List A) (i : ℕ) (x : A) → i < length xs → x ≡ get_or xs i x → drop i xs ≡ x ∷ drop (i + 1) xs
+first_left xs i x h is = rw add-one (drop-cons xs i x h ∙ ap (λ y. y ∷ drop (suc i) xs) (sym is))
+
+nothing_left : (size : ℕ) (cells : List Cell) (values : List Term → Option ℤ) (places : List Place) → 1 ≤ length places → args_of size cells values places [] ≡ None
+nothing_left size cells values [] h = absurd (omega arith)
+nothing_left size cells values (place ∷ places) h = refl
+
+-- an operand is missing
+pub missing : (size : ℕ) (cells : List Cell) (values : List Term → Option ℤ) (places : List Place) (i : ℕ) (made : List Arg) → i < length places → after made (args_of size cells values (drop i places) []) ≡ None
+missing size cells values places i made h = ap (after made) (nothing_left size cells values (drop i places) (omega (arith, length-drop i places)))
+
+unfit_first : {A : Type 0} (o : Option A) (rest : Option (List A)) → o ≡ None → and_before o rest ≡ None
+unfit_first o rest h = rw h refl
+
+-- an operand is unfit
+pub unfit : (size : ℕ) (cells : List Cell) (values : List Term → Option ℤ) (places : List Place) (i : ℕ) (d : Place) (operand : Operand) (operands : List Operand) (made : List Arg) →
+    i < length places → arg_of size cells values (get_or places i d).kind operand ≡ None → after made (args_of size cells values (drop i places) (operand ∷ operands)) ≡ None
+unfit size cells values places i d operand operands made h none =
+    ap (λ ps. after made (args_of size cells values ps (operand ∷ operands))) (drop-cons places i d h)
+    ∙ ap (after made) (unfit_first (arg_of size cells values (get_or places i d).kind operand) (args_of size cells values (drop (suc i) places) operands) none)
+
+-- ---- statements
+
+assembly_passed : (b : Bool) (o : Option Statement) (rest : Option (List Statement)) → b ≡ true → cond b rest (and_before o rest) ≡ rest
+assembly_passed b o rest h = rw h refl
+
+executable_first : (b : Bool) (o : Option Statement) (rest : Option (List Statement)) → b ≡ false → cond b rest (and_before o rest) ≡ and_before o rest
+executable_first b o rest h = rw h refl
+
+-- a statement of the assembly is passed over
+pub passed_over : (size : ℕ) (cells : List Cell) (values : List Term → Option ℤ) (source : List Stmt) (i : ℕ) (s : Stmt) → i < length source → s ≡ get_or source i s → (row s.name).assembly ≡ true →
+    machine_statements size cells values (drop i source) ≡ machine_statements size cells values (drop (i + 1) source)
+passed_over size cells values source i s h is b =
+    ap (machine_statements size cells values) (first_left source i s h is)
+    ∙ assembly_passed (row s.name).assembly (machine_statement size cells values s) (machine_statements size cells values (drop (i + 1) source)) b
+
+-- an executable statement is made
+pub taken : (size : ℕ) (cells : List Cell) (values : List Term → Option ℤ) (source : List Stmt) (i : ℕ) (s : Stmt) (made : List Statement) (x : Statement) → i < length source → s ≡ get_or source i s → (row s.name).assembly ≡ false → machine_statement size cells values s ≡ Some x →
+    after made (machine_statements size cells values (drop i source)) ≡ after (made ++ x ∷ []) (machine_statements size cells values (drop (i + 1) source))
+taken size cells values source i s made x h is b some =
+    ap (λ ss. after made (machine_statements size cells values ss)) (first_left source i s h is)
+    ∙ ap (after made) (executable_first (row s.name).assembly (machine_statement size cells values s) (machine_statements size cells values (drop (i + 1) source)) b
+    ∙ ap (λ o. and_before o (machine_statements size cells values (drop (i + 1) source))) some)
+    ∙ after_push made x (machine_statements size cells values (drop (i + 1) source))

@@ -1,0 +1,70 @@
+-- What a check answers.
+use Rattle.std.specs.Prelude.{◌≡◌, ℕ, List, [], ◌∷◌, Option, Some, None, Bool, true, false, ◌&&◌}
+use Rattle.std.specs.List.{list_all}
+use Rattle.std.specs.declared.result.Result.{Result}
+use Rattle.std.specs.declared.result.Result.TheVariants.{Ok, Err}
+use Rattle.layout_params.specs.Parameters.{Parameters}
+use Rattle.sil_base.specs.declared.line.Fault.{Fault}
+use Rattle.sil_macros.specs.declared.names.Macro.{Macro}
+use Rattle.sil_macros.specs.declared.names.Macro.TheVariants as macros
+use Rattle.sil_macros.specs.Rows.{row}
+use Rattle.sil_cards.specs.CardParts.{CardParts}
+use Rattle.sil_symbols.specs.declared.stmt.Stmt.{Stmt}
+use Rattle.sil_symbols.specs.Rules.{faults_of}
+use Rattle.data_asm.specs.Faults.{data_faults}
+use Rattle.sil_model.specs.declared.program.Program.{Program}
+use Rattle.sil_check.specs.declared.stop.CheckStop.{CheckStop}
+use Rattle.sil_check.specs.declared.stop.CheckStop.TheVariants as stop
+use Rattle.sil_check.specs.Shapes.{fits}
+use Rattle.sil_check.specs.Standard.{is_standard}
+use Rattle.sil_check.specs.Statements.{statements_of}
+use Rattle.sil_check.specs.Programs.{program_of}
+
+-- the macros that are installed so far: MOVD, INCRA and ENDEX, and those of the assembly but FORMAT
+abbrev pub is_built_macro : Macro → Bool
+is_built_macro macros.Movd = true
+is_built_macro macros.Incra = true
+is_built_macro macros.Endex = true
+is_built_macro macros.Format = false
+is_built_macro name = (row name).assembly
+
+-- a statement of such a macro and its shape
+abbrev pub is_built : Stmt → Bool
+is_built s = is_built_macro s.name && fits s.name s.operands
+
+abbrev pub is_none : {A : Type 0} → List A → Bool
+is_none [] = true
+is_none (x ∷ xs) = false
+
+-- the faults that there are; without one, the answer that follows
+abbrev pub unless_faults : List Fault → Result Program CheckStop → Result Program CheckStop
+unless_faults [] next = next
+unless_faults (fault ∷ faults) next = Err (stop.Faults (fault ∷ faults))
+
+-- the answer that follows where everything so far is built
+abbrev pub if_built : Bool → Result Program CheckStop → Result Program CheckStop
+if_built true next = next
+if_built false next = Err stop.NotBuilt
+
+abbrev pub made : Option Program → Result Program CheckStop
+made (Some program) = Ok program
+made None = Err stop.NotBuilt
+
+-- what is answered for a source, without want of memory: faults of symbols, then of data, then the program
+abbrev pub verdict_of : Parameters → List Stmt → List ℕ → Result Program CheckStop
+verdict_of p source tables =
+    unless_faults (faults_of p source)
+    (if_built (list_all is_built source)
+    (unless_faults (data_faults p source)
+    (if_built (is_none tables && is_standard p.settings.sizes)
+    (made (program_of p source)))))
+
+-- the same, for the cards of a source
+abbrev pub verdict : List CardParts → List ℕ → Parameters → Result Program CheckStop
+verdict cards tables p = verdict_of p (statements_of cards) tables
+
+-- a stop but want of memory is what the verdict says
+abbrev pub IsStopFor : Result Program CheckStop → CheckStop → Type 0
+IsStopFor answer (stop.Faults faults) = answer ≡ Err (stop.Faults faults)
+IsStopFor answer stop.NotBuilt = answer ≡ Err stop.NotBuilt
+IsStopFor answer stop.Memory = Unit {0}
