@@ -10,7 +10,7 @@ use Rattle.sil_cli.specs.declared.ending.Ending.{Ending}
 use Rattle.sil_cli.specs.declared.ending.Ending.TheVariants as ending
 use Rattle.sil_cli.specs.declared.ending.Stop.{Stop}
 use Rattle.sil_cli.specs.declared.ending.Stop.TheVariants as stop
-use Rattle.sil_cli.specs.Answer.{IsMissing, IsTooLong, IsNoted, IsUnless}
+use Rattle.sil_cli.specs.Answer.{IsMissing, IsTooLong, IsParameterFault, AreFaults, IsNoted, IsUnless}
 use Rattle.sil_cli.specs.Endings.{run_status, stop_status, status_of, is_free, is_free_end, IsProgramEnd}
 use Rattle.sil_cli.specs.Files.{StopCause}
 use Rattle.sil_cli.specs.Noted.{settled}
@@ -22,7 +22,7 @@ abbrev pub is_run_code : ℕ → Bool
 is_run_code n = nat_le n 1 || (n == 7) || (n == 8)
 
 abbrev pub is_stop_code : ℕ → Bool
-is_stop_code n = (n == 10) || (n == 12) || (n == 13) || (n == 15) || (n == 16)
+is_stop_code n = (n == 3) || (n == 4) || (n == 10) || (n == 12) || (n == 13) || (n == 15) || (n == 16)
 
 exit-code : (code : ℕ) → code ≤ 1 → is_run_code code ≡ true
 exit-code code h = grind (arith, nat_tests)
@@ -45,6 +45,8 @@ stop-code : (s : Stop) (b a : ℕ) → StopCause s b a → is_stop_code (stop_st
 stop-code (stop.Missing name) b a h = refl
 stop-code (stop.TooLong name) b a h = refl
 stop-code (stop.StoreFault name) b a h = refl
+stop-code (stop.Parameters fault) b a h = refl
+stop-code (stop.Faults faults) b a h = refl
 stop-code stop.NotBuilt b a h = refl
 stop-code (stop.ImageRefused part) b a h = absurd h
 stop-code stop.Memory b a h = refl
@@ -73,6 +75,8 @@ stop-store : (s : Stop) (b a : ℕ) → StopCause s b a → stop_status s ≡ 10
 stop-store (stop.Missing name) b a h is = absurd (omega arith)
 stop-store (stop.TooLong name) b a h is = absurd (omega arith)
 stop-store (stop.StoreFault name) b a h is = h
+stop-store (stop.Parameters fault) b a h is = absurd (omega arith)
+stop-store (stop.Faults faults) b a h is = absurd (omega arith)
 stop-store stop.NotBuilt b a h is = absurd (omega arith)
 stop-store (stop.ImageRefused part) b a h is = absurd h
 stop-store stop.Memory b a h is = absurd (omega arith)
@@ -92,6 +96,8 @@ pub missing-of : (s : Stop) → stop_status s ≡ 13 → (is_free s ≡ false) �
 missing-of (stop.Missing name) is = (refl, (name, refl))
 missing-of (stop.TooLong name) is = absurd (omega arith)
 missing-of (stop.StoreFault name) is = absurd (omega arith)
+missing-of (stop.Parameters fault) is = absurd (omega arith)
+missing-of (stop.Faults faults) is = absurd (omega arith)
 missing-of stop.NotBuilt is = absurd (omega arith)
 missing-of (stop.ImageRefused part) is = absurd (omega arith)
 missing-of stop.Memory is = absurd (omega arith)
@@ -100,6 +106,8 @@ pub too-long-of : (s : Stop) → stop_status s ≡ 15 → (is_free s ≡ false) 
 too-long-of (stop.Missing name) is = absurd (omega arith)
 too-long-of (stop.TooLong name) is = (refl, (name, refl))
 too-long-of (stop.StoreFault name) is = absurd (omega arith)
+too-long-of (stop.Parameters fault) is = absurd (omega arith)
+too-long-of (stop.Faults faults) is = absurd (omega arith)
 too-long-of stop.NotBuilt is = absurd (omega arith)
 too-long-of (stop.ImageRefused part) is = absurd (omega arith)
 too-long-of stop.Memory is = absurd (omega arith)
@@ -108,14 +116,38 @@ pub not-built-of : (s : Stop) → stop_status s ≡ 16 → (is_free s ≡ false)
 not-built-of (stop.Missing name) is = absurd (omega arith)
 not-built-of (stop.TooLong name) is = absurd (omega arith)
 not-built-of (stop.StoreFault name) is = absurd (omega arith)
+not-built-of (stop.Parameters fault) is = absurd (omega arith)
+not-built-of (stop.Faults faults) is = absurd (omega arith)
 not-built-of stop.NotBuilt is = (refl, refl)
 not-built-of (stop.ImageRefused part) is = absurd (omega arith)
 not-built-of stop.Memory is = absurd (omega arith)
+
+pub parameters-of : (s : Stop) → stop_status s ≡ 4 → (is_free s ≡ false) × IsParameterFault s
+parameters-of (stop.Missing name) is = absurd (omega arith)
+parameters-of (stop.TooLong name) is = absurd (omega arith)
+parameters-of (stop.StoreFault name) is = absurd (omega arith)
+parameters-of (stop.Parameters fault) is = (refl, (fault, refl))
+parameters-of (stop.Faults faults) is = absurd (omega arith)
+parameters-of stop.NotBuilt is = absurd (omega arith)
+parameters-of (stop.ImageRefused part) is = absurd (omega arith)
+parameters-of stop.Memory is = absurd (omega arith)
+
+pub faults-of : (s : Stop) → stop_status s ≡ 3 → (is_free s ≡ false) × AreFaults s
+faults-of (stop.Missing name) is = absurd (omega arith)
+faults-of (stop.TooLong name) is = absurd (omega arith)
+faults-of (stop.StoreFault name) is = absurd (omega arith)
+faults-of (stop.Parameters fault) is = absurd (omega arith)
+faults-of (stop.Faults faults) is = (refl, (faults, refl))
+faults-of stop.NotBuilt is = absurd (omega arith)
+faults-of (stop.ImageRefused part) is = absurd (omega arith)
+faults-of stop.Memory is = absurd (omega arith)
 
 free-stop : (s : Stop) → is_free s ≡ true → (stop_status s ≡ 10) ⊎ (stop_status s ≡ 12)
 free-stop (stop.Missing name) is = absurd (let none : ⊥ = cc in none)
 free-stop (stop.TooLong name) is = absurd (let none : ⊥ = cc in none)
 free-stop (stop.StoreFault name) is = inl refl
+free-stop (stop.Parameters fault) is = absurd (let none : ⊥ = cc in none)
+free-stop (stop.Faults faults) is = absurd (let none : ⊥ = cc in none)
 free-stop stop.NotBuilt is = absurd (let none : ⊥ = cc in none)
 free-stop (stop.ImageRefused part) is = absurd (let none : ⊥ = cc in none)
 free-stop stop.Memory is = inr refl

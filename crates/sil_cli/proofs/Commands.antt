@@ -1,11 +1,11 @@
 -- What commands come to.
-use Rattle.std.proofs.Common.{◌≡◌, ℕ, ◌≤◌, ◌^◌, List, Option, None, Some, option_map, IfSome, IsSomeAnd, IfOk, IfErr, OnErr, IsOkAnd, false, refl, sym, ap, ◌∙◌, Ok, Err}
+use Rattle.std.proofs.Common.{◌≡◌, ℕ, ◌≤◌, ◌^◌, List, Option, None, Some, option_map, IfSome, IfOk, IfErr, OnErr, MatchResult, IsOkAnd, false, refl, sym, ap, ◌∙◌, Ok, Err}
 use Rattle.std.specs.declared.result.Result.{Result}
 use Rattle.std.specs.FinMap.{insert}
 use Rattle.sil_base.specs.Files.{Files}
 use Rattle.sil_base.specs.Tapes.{Tapes}
 use Rattle.sil_base.specs.Units.{AllUnits, tapes_of}
-use Rattle.layout_params.specs.Parameters.{Settings, standard}
+use Rattle.layout_params.specs.Parameters.{Settings}
 use Rattle.sil_model.specs.declared.end.End.{End}
 use Rattle.sil_model.specs.declared.end.End.TheVariants as ends
 use Rattle.sil_model.specs.declared.program.Program.{Program}
@@ -21,22 +21,38 @@ use Rattle.sil_cli.specs.declared.ending.Stop.{Stop}
 use Rattle.sil_cli.specs.declared.ending.Stop.TheVariants as stop
 use Rattle.sil_cli.specs.Answer.{Performs, StopsSo}
 use Rattle.sil_cli.specs.Endings.{ending_of, is_free, is_free_end, IsProgramEnd}
-use Rattle.sil_cli.specs.Files.{SavesOr}
-use Rattle.sil_cli.specs.Inputs.{program_at}
+use Rattle.sil_cli.specs.Files.{StopCause, IsCheckStop, SavesOr}
+use Rattle.sil_cli.specs.Inputs.{Job, job_at}
 use Rattle.sil_cli.specs.Report.{Comes, Keeps, Causes, EndingCause, has_run}
 use Rattle.sil_cli.specs.Runs.{RunsBytes}
 use Rattle.sil_cli.specs.Words.{Order}
 use Rattle.sil_cli.proofs.SoFar.{IsSoFar, run-so-far}
 use Rattle.sil_cli.proofs.Maps.{remove-insert}
 
--- what holds of a value that is there holds of some value
-pub some-value : {T : Type 0} (o : Option T) (P : T → Type 0) → IsSomeAnd o P → (x : T) × P x
-some-value None P h = absurd h
-some-value (Some x) P h = (x, h)
+-- what is built of a job that is there is built of some job
+pub some-job : {T : Type 0} (r : Result T Stop) (o : Result Job Stop) (P : T → Job → Type 0) (Q : Stop → Type 0) → MatchResult r (λ x. IsOkAnd o (P x)) Q → IfOk r (λ x. (job : Job) × P x job)
+some-job (Ok x) (Ok job) P Q h = (job, h)
+some-job (Ok x) (Err e) P Q h = absurd h
+some-job (Err e) o P Q h = tt
+
+check-cause : (e : Stop) (b a : ℕ) → IsCheckStop e → StopCause e b a
+check-cause (stop.Missing name) b a h = absurd h
+check-cause (stop.TooLong name) b a h = absurd h
+check-cause (stop.StoreFault name) b a h = absurd h
+check-cause (stop.Parameters fault) b a h = tt
+check-cause (stop.Faults faults) b a h = tt
+check-cause stop.NotBuilt b a h = tt
+check-cause (stop.ImageRefused part) b a h = absurd h
+check-cause stop.Memory b a h = tt
+
+-- a stop after the loads has its cause
+pub build-cause : {T : Type 0} (r : Result T Stop) (b a : ℕ) → IfErr r IsCheckStop → IfErr r (λ e. StopCause e b a)
+build-cause (Ok x) b a h = tt
+build-cause (Err e) b a h = check-cause e b a h
 
 -- ---- saved
 
-keeps-file : {T E : Type 0} (order : Order) (m : Files) (after : Option Files) (r : Result T E) (image : List ℕ) (P : Program → Type 0) → IsOkAnd (program_at order m) P → SavesOr r order.image image m after → Keeps order m after
+keeps-file : {T E : Type 0} (order : Order) (m : Files) (after : Option Files) (r : Result T E) (image : List ℕ) (P : Job → Type 0) → IsOkAnd (job_at order m) P → SavesOr r order.image image m after → Keeps order m after
 keeps-file order m after (Ok x) image P ok saves = record {
   others = rw saves (remove-insert m order.image image);
   all = λ stop e. absurd (rw e at ok);
@@ -44,7 +60,7 @@ keeps-file order m after (Ok x) image P ok saves = record {
 keeps-file order m after (Err e) image P ok saves = record { others = saves; all = λ stop e. absurd (rw e at ok) }
 
 -- a save of the image of a program leaves the other files
-pub keeps-saved : {T E : Type 0} (order : Order) (before between after : Option Files) (r : Result T E) (image : List ℕ) (P : Program → Type 0) → between ≡ before → IfSome before (λ m. IsOkAnd (program_at order m) P) → IfSome between (λ m. SavesOr r order.image image m after) → IfSome before (λ m. Keeps order m after)
+pub keeps-saved : {T E : Type 0} (order : Order) (before between after : Option Files) (r : Result T E) (image : List ℕ) (P : Job → Type 0) → between ≡ before → IfSome before (λ m. IsOkAnd (job_at order m) P) → IfSome between (λ m. SavesOr r order.image image m after) → IfSome before (λ m. Keeps order m after)
 keeps-saved order None between after r image P same ok saves = tt
 keeps-saved order (Some m) between after r image P same ok saves = keeps-file order m after r image P ok (rw same at saves)
 
@@ -70,28 +86,28 @@ if-mapped : {T U : Type 0} (o : Option T) (f : T → U) (P : U → Type 0) → I
 if-mapped None f P h = tt
 if-mapped (Some x) f P h = h
 
-comes-ran : (order : Order) (m : Files) (tapes tapes' : Tapes) (end : CpuEnd) (image : List ℕ) (after : Option Files) (r : Result Program Stop) → program_at order m ≡ r → IsOkAnd r (λ p. IsInstalled image p standard.settings) → after ≡ Some (insert m order.image image) → order.steps ≤ 2 ^ 40 → RunsBytes image order.steps end tapes tapes' → Comes (Some order) m tapes (ending.Ran end) after tapes'
+comes-ran : (order : Order) (m : Files) (tapes tapes' : Tapes) (end : CpuEnd) (image : List ℕ) (after : Option Files) (r : Result Job Stop) → job_at order m ≡ r → IsOkAnd r (λ j. IsInstalled image j.program j.settings) → after ≡ Some (insert m order.image image) → order.steps ≤ 2 ^ 40 → RunsBytes image order.steps end tapes tapes' → Comes (Some order) m tapes (ending.Ran end) after tapes'
 comes-ran order m tapes tapes' end image after (Err e) same installed saved few runs = absurd installed
-comes-ran order m tapes tapes' end image after (Ok p) same installed saved few runs = record {
+comes-ran order m tapes tapes' end image after (Ok j) same installed saved few runs = record {
   image = image;
   installed = rw same installed;
-  stage = rw same (if-mapped (machine p standard.settings tapes order.steps).end _ _ (run-stage _ end _ tapes' (insert m order.image image) after (installed-end image p standard.settings order.steps end tapes tapes' installed few runs) (installed-tapes image p standard.settings order.steps end tapes tapes' installed few runs) saved));
+  stage = rw same (if-mapped (machine j.program j.settings tapes order.steps).end _ _ (run-stage _ end _ tapes' (insert m order.image image) after (installed-end image j.program j.settings order.steps end tapes tapes' installed few runs) (installed-tapes image j.program j.settings order.steps end tapes tapes' installed few runs) saved));
 }
 
 -- an installed image isn't refused
-free-refusal : (image : List ℕ) (e : Stop) (program : Program) → IsInstalled image program standard.settings → ((i : Image) → IsImage i → image ≡ spelling i → e ≡ stop.Memory) → is_free e ≡ false → ⊥
-free-refusal image e program installed accepts kept =
+free-refusal : (image : List ℕ) (e : Stop) (job : Job) → IsInstalled image job.program job.settings → ((i : Image) → IsImage i → image ≡ spelling i → e ≡ stop.Memory) → is_free e ≡ false → ⊥
+free-refusal image e job installed accepts kept =
     let memory : e ≡ stop.Memory = accepts installed.image installed.is_image installed.spelled in
     let no : is_free stop.Memory ≡ false = rw memory at kept in
     cc
 
-go-told : (order : Order) (before after : Option Files) (tapes tapes' : Tapes) (r : Result CpuEnd Stop) (image : List ℕ) → IfSome before (λ m. IsOkAnd (program_at order m) (λ p. IsInstalled image p standard.settings) × (after ≡ Some (insert m order.image image))) → (program : Program) × IsInstalled image program standard.settings → IfOk r (λ end. RunsBytes image order.steps end tapes tapes') → ((i : Image) → IsImage i → image ≡ spelling i → IfErr r (λ e. e ≡ stop.Memory)) → order.steps ≤ 2 ^ 40 → IfSome before (λ m. is_free_end (ending_of r) ≡ false → Comes (Some order) m tapes (ending_of r) after tapes')
+go-told : (order : Order) (before after : Option Files) (tapes tapes' : Tapes) (r : Result CpuEnd Stop) (image : List ℕ) → IfSome before (λ m. IsOkAnd (job_at order m) (λ j. IsInstalled image j.program j.settings) × (after ≡ Some (insert m order.image image))) → (job : Job) × IsInstalled image job.program job.settings → IfOk r (λ end. RunsBytes image order.steps end tapes tapes') → ((i : Image) → IsImage i → image ≡ spelling i → IfErr r (λ e. e ≡ stop.Memory)) → order.steps ≤ 2 ^ 40 → IfSome before (λ m. is_free_end (ending_of r) ≡ false → Comes (Some order) m tapes (ending_of r) after tapes')
 go-told order None after tapes tapes' r image saved some runs accepts few = tt
 go-told order (Some m) after tapes tapes' (Ok end) image saved some runs accepts few = λ kept. comes-ran order m tapes tapes' end image after _ refl saved.0 saved.1 few runs
 go-told order (Some m) after tapes tapes' (Err e) image saved some runs accepts few = λ kept. absurd (free-refusal image e some.0 some.1 accepts kept)
 
 -- the same with the bytes that were run
-pub go-run : (order : Order) (before after : Option Files) (tapes tapes' : Tapes) (r : Result CpuEnd Stop) (image bytes : List ℕ) → bytes ≡ image → IfSome before (λ m. IsOkAnd (program_at order m) (λ p. IsInstalled image p standard.settings) × (after ≡ Some (insert m order.image image))) → (program : Program) × IsInstalled image program standard.settings → IfOk r (λ end. RunsBytes bytes order.steps end tapes tapes') → ((i : Image) → IsImage i → bytes ≡ spelling i → IfErr r (λ e. e ≡ stop.Memory)) → order.steps ≤ 2 ^ 40 → IfSome before (λ m. is_free_end (ending_of r) ≡ false → Comes (Some order) m tapes (ending_of r) after tapes')
+pub go-run : (order : Order) (before after : Option Files) (tapes tapes' : Tapes) (r : Result CpuEnd Stop) (image bytes : List ℕ) → bytes ≡ image → IfSome before (λ m. IsOkAnd (job_at order m) (λ j. IsInstalled image j.program j.settings) × (after ≡ Some (insert m order.image image))) → (job : Job) × IsInstalled image job.program job.settings → IfOk r (λ end. RunsBytes bytes order.steps end tapes tapes') → ((i : Image) → IsImage i → bytes ≡ spelling i → IfErr r (λ e. e ≡ stop.Memory)) → order.steps ≤ 2 ^ 40 → IfSome before (λ m. is_free_end (ending_of r) ≡ false → Comes (Some order) m tapes (ending_of r) after tapes')
 go-run order before after tapes tapes' r image bytes same saved some runs accepts few = go-told order before after tapes tapes' r image saved some (rw same at runs) (rw same at accepts) few
 
 -- ---- causes
@@ -110,22 +126,22 @@ program-end (Some x) end e h =
     let same : as_end x ≡ end = same-some _ _ e in
     rw (sym same) (as-program-end x h)
 
-run-caused : (n : ℕ) (tapes tapes' : Tapes) (r : Result CpuEnd Stop) (image : List ℕ) (b a : ℕ) → (program : Program) × IsInstalled image program standard.settings → IfOk r (λ end. RunsBytes image n end tapes tapes') → ((i : Image) → IsImage i → image ≡ spelling i → IfErr r (λ e. e ≡ stop.Memory)) → n ≤ 2 ^ 40 → EndingCause (ending_of r) b a
-run-caused n tapes tapes' (Ok end) image b a some runs accepts few = program-end _ end (installed-end image some.0 standard.settings n end tapes tapes' some.1 few runs) (run-so-far some.0 n _)
+run-caused : (n : ℕ) (tapes tapes' : Tapes) (r : Result CpuEnd Stop) (image : List ℕ) (b a : ℕ) → (job : Job) × IsInstalled image job.program job.settings → IfOk r (λ end. RunsBytes image n end tapes tapes') → ((i : Image) → IsImage i → image ≡ spelling i → IfErr r (λ e. e ≡ stop.Memory)) → n ≤ 2 ^ 40 → EndingCause (ending_of r) b a
+run-caused n tapes tapes' (Ok end) image b a some runs accepts few = program-end _ end (installed-end image some.0.program some.0.settings n end tapes tapes' some.1 few runs) (run-so-far some.0.program n _)
 run-caused n tapes tapes' (Err e) image b a some runs accepts few =
     let memory : e ≡ stop.Memory = accepts some.1.image some.1.is_image some.1.spelled in
     rw memory tt
 
 -- a run of an installed image has its cause
-pub run-cause : (n : ℕ) (tapes tapes' : Tapes) (r : Result CpuEnd Stop) (image bytes : List ℕ) (b a : ℕ) → bytes ≡ image → (program : Program) × IsInstalled image program standard.settings → IfOk r (λ end. RunsBytes bytes n end tapes tapes') → ((i : Image) → IsImage i → bytes ≡ spelling i → IfErr r (λ e. e ≡ stop.Memory)) → n ≤ 2 ^ 40 → EndingCause (ending_of r) b a
+pub run-cause : (n : ℕ) (tapes tapes' : Tapes) (r : Result CpuEnd Stop) (image bytes : List ℕ) (b a : ℕ) → bytes ≡ image → (job : Job) × IsInstalled image job.program job.settings → IfOk r (λ end. RunsBytes bytes n end tapes tapes') → ((i : Image) → IsImage i → bytes ≡ spelling i → IfErr r (λ e. e ≡ stop.Memory)) → n ≤ 2 ^ 40 → EndingCause (ending_of r) b a
 run-cause n tapes tapes' r image bytes b a same some runs accepts few = run-caused n tapes tapes' r image b a some (rw same at runs) (rw same at accepts) few
 
-run-stop : (order : Order) (m : Files) (r : Result CpuEnd Stop) (image : List ℕ) → (program : Program) × IsInstalled image program standard.settings → ((i : Image) → IsImage i → image ≡ spelling i → IfErr r (λ e. e ≡ stop.Memory)) → IfErr r (λ e. is_free e ≡ false → program_at order m ≡ Err e)
+run-stop : (order : Order) (m : Files) (r : Result CpuEnd Stop) (image : List ℕ) → (job : Job) × IsInstalled image job.program job.settings → ((i : Image) → IsImage i → image ≡ spelling i → IfErr r (λ e. e ≡ stop.Memory)) → IfErr r (λ e. is_free e ≡ false → job_at order m ≡ Err e)
 run-stop order m (Ok end) image some accepts = tt
 run-stop order m (Err e) image some accepts = λ kept. absurd (free-refusal image e some.0 some.1 accepts kept)
 
 -- a run is stopped for want of memory alone
-pub run-stops : (order : Order) (before : Option Files) (r : Result CpuEnd Stop) (image bytes : List ℕ) → bytes ≡ image → (program : Program) × IsInstalled image program standard.settings → ((i : Image) → IsImage i → bytes ≡ spelling i → IfErr r (λ e. e ≡ stop.Memory)) → IfSome before (λ m. IfErr r (λ e. is_free e ≡ false → program_at order m ≡ Err e))
+pub run-stops : (order : Order) (before : Option Files) (r : Result CpuEnd Stop) (image bytes : List ℕ) → bytes ≡ image → (job : Job) × IsInstalled image job.program job.settings → ((i : Image) → IsImage i → bytes ≡ spelling i → IfErr r (λ e. e ≡ stop.Memory)) → IfSome before (λ m. IfErr r (λ e. is_free e ≡ false → job_at order m ≡ Err e))
 run-stops order None r image bytes same some accepts = tt
 run-stops order (Some m) r image bytes same some accepts = run-stop order m r image some (rw same at accepts)
 
@@ -139,13 +155,13 @@ same-stopped : (x y : Stop) → ending.Stopped x ≡ ending.Stopped y → x ≡ 
 same-stopped x y e = cc
 
 -- what stops an order that was given
-order-stops : (order : Order) (m : Files) (r : Result CpuEnd Stop) → IfErr r (λ e. is_free e ≡ false → program_at order m ≡ Err e) → (s : Stop) → ending_of r ≡ ending.Stopped s → is_free s ≡ false → program_at order m ≡ Err s
+order-stops : (order : Order) (m : Files) (r : Result CpuEnd Stop) → IfErr r (λ e. is_free e ≡ false → job_at order m ≡ Err e) → (s : Stop) → ending_of r ≡ ending.Stopped s → is_free s ≡ false → job_at order m ≡ Err s
 order-stops order m (Ok end) stops s is kept = absurd (let none : ⊥ = cc in none)
 order-stops order m (Err e) stops s is kept =
     let same : e ≡ s = same-stopped _ _ is in
     rw (sym same) (stops (rw (sym same) at kept))
 
-all-stops : (order : Order) (files : Option Files) (r : Result CpuEnd Stop) → IfSome files (λ m. IfErr r (λ e. is_free e ≡ false → program_at order m ≡ Err e)) → IfSome files (λ m. (s : Stop) → ending_of r ≡ ending.Stopped s → is_free s ≡ false → StopsSo (Some order) m s)
+all-stops : (order : Order) (files : Option Files) (r : Result CpuEnd Stop) → IfSome files (λ m. IfErr r (λ e. is_free e ≡ false → job_at order m ≡ Err e)) → IfSome files (λ m. (s : Stop) → ending_of r ≡ ending.Stopped s → is_free s ≡ false → StopsSo (Some order) m s)
 all-stops order None r stops = tt
 all-stops order (Some m) r stops = order-stops order m r stops
 
@@ -153,7 +169,7 @@ stays : (r : Result CpuEnd Stop) (units units' : AllUnits) → OnErr r (units' �
 stays (Ok end) units units' still e = absurd (let none : ⊥ = cc in none)
 stays (Err s) units units' still e = still
 
-performs-order : (order : Order) (r : Result CpuEnd Stop) (files files' : Option Files) (b a : ℕ) (units units' : AllUnits) → IfSome files (λ m. is_free_end (ending_of r) ≡ false → Comes (Some order) m (tapes_of units) (ending_of r) files' (tapes_of units')) → IfSome files (λ m. Keeps order m files') → IfSome files (λ m. IfErr r (λ e. is_free e ≡ false → program_at order m ≡ Err e)) → OnErr r (units' ≡ units) → Causes (ending_of r) b a → Performs (Some order) (ending_of r) files files' b a units units'
+performs-order : (order : Order) (r : Result CpuEnd Stop) (files files' : Option Files) (b a : ℕ) (units units' : AllUnits) → IfSome files (λ m. is_free_end (ending_of r) ≡ false → Comes (Some order) m (tapes_of units) (ending_of r) files' (tapes_of units')) → IfSome files (λ m. Keeps order m files') → IfSome files (λ m. IfErr r (λ e. is_free e ≡ false → job_at order m ≡ Err e)) → OnErr r (units' ≡ units) → Causes (ending_of r) b a → Performs (Some order) (ending_of r) files files' b a units units'
 performs-order order r files files' b a units units' told leaves stops still causes = record {
   words = (λ e. absurd (let none : ⊥ = cc in none), λ e. absurd (not-words r e));
   causes = causes;
@@ -163,7 +179,7 @@ performs-order order r files files' b a units units' told leaves stops still cau
   told = told;
 }
 
-pub performs : (read : Option Order) (order : Order) (end : Ending) (r : Result CpuEnd Stop) (files files' : Option Files) (b a : ℕ) (units units' : AllUnits) → Some order ≡ read → end ≡ ending_of r → IfSome files (λ m. is_free_end (ending_of r) ≡ false → Comes (Some order) m (tapes_of units) (ending_of r) files' (tapes_of units')) → IfSome files (λ m. Keeps order m files') → IfSome files (λ m. IfErr r (λ e. is_free e ≡ false → program_at order m ≡ Err e)) → OnErr r (units' ≡ units) → Causes (ending_of r) b a → Performs read end files files' b a units units'
+pub performs : (read : Option Order) (order : Order) (end : Ending) (r : Result CpuEnd Stop) (files files' : Option Files) (b a : ℕ) (units units' : AllUnits) → Some order ≡ read → end ≡ ending_of r → IfSome files (λ m. is_free_end (ending_of r) ≡ false → Comes (Some order) m (tapes_of units) (ending_of r) files' (tapes_of units')) → IfSome files (λ m. Keeps order m files') → IfSome files (λ m. IfErr r (λ e. is_free e ≡ false → job_at order m ≡ Err e)) → OnErr r (units' ≡ units) → Causes (ending_of r) b a → Performs read end files files' b a units units'
 performs read order end r files files' b a units units' is ends told leaves stops still causes =
     let done = performs-order order r files files' b a units units' told leaves stops still causes in
     rw (sym is, ends) done

@@ -1,10 +1,12 @@
 -- Notes one after another.
-use Rattle.std.proofs.Common.{◌≡◌, ℕ, List, [], ◌++◌, Option, None, Some, IfSome, refl, sym, ap, ◌∙◌, arith, append_assoc}
+use Rattle.std.proofs.Common.{◌≡◌, ℕ, zero, suc, ◌+◌, ◌<◌, List, [], ◌∷◌, ◌++◌, length, take, get_or, Option, None, Some, IfSome, refl, sym, ap, ◌∙◌, arith, append_assoc}
 use Rattle.std.proofs.lemmas.Grind.{common_steps}
 use Rattle.sil_base.specs.Sinks.{Puts, AppendsPart}
 use Rattle.sil_base.specs.declared.sink.Put.{Put}
 use Rattle.sil_base.specs.declared.sink.Put.TheVariants.{Ok, Failed, Memory}
-use Rattle.sil_cli.specs.Noted.{NotesLine, Noted}
+use Rattle.sil_base.specs.declared.line.Fault.{Fault}
+use Rattle.sil_cli.specs.Endings.{fault_line, fault_lines}
+use Rattle.sil_cli.specs.Noted.{NotesLine, Noted, without_memory}
 
 append-none : (xs : List ℕ) → xs ++ [] ≡ xs
 append-none xs = grind (arith, common_steps)
@@ -54,3 +56,34 @@ noted-more Memory put text line x y z b c d noted more = record {
 -- and by nothing
 pub noted-none : (put : Put) (text : List ℕ) (x y : Option (List ℕ)) (b c : ℕ) → Noted put text x y b c → Noted put (text ++ []) x y b c
 noted-none put text x y b c noted = rw (append-none text) noted
+
+-- nothing of a line was put, since there was no memory for it
+pub noted-unmade : (so_far : Put) (line : List ℕ) (x : Option (List ℕ)) (b : ℕ) → NotesLine so_far line (without_memory so_far) x x b b
+noted-unmade Ok line None b = (tt, omega arith, λ e. absurd (let none : ⊥ = cc in none))
+noted-unmade Ok line (Some t) b = (([], line, refl, ap Some (sym (append-none t))), omega arith, λ e. absurd (let none : ⊥ = cc in none))
+noted-unmade Failed line x b = (refl, refl, refl)
+noted-unmade Memory line x b = (refl, refl, refl)
+
+-- nothing was noted so far
+pub noted-nothing : (x : Option (List ℕ)) (b : ℕ) → Noted Ok [] x x b b
+noted-nothing None b = record { whole = λ e. tt; part = tt; count = omega arith; failed = λ e. absurd (let none : ⊥ = cc in none) }
+noted-nothing (Some t) b = record {
+  whole = λ e. ap Some (sym (append-none t));
+  part = ([], [], refl, ap Some (sym (append-none t)));
+  count = omega arith;
+  failed = λ e. absurd (let none : ⊥ = cc in none);
+}
+
+lines-more : (faults : List Fault) (i : ℕ) (d : Fault) → i < length faults → fault_lines (take (i + 1) faults) ≡ fault_lines (take i faults) ++ fault_line (get_or faults i d)
+lines-more [] i d h = absurd (omega arith)
+lines-more (fault ∷ faults) zero d h = append-none (fault_line fault)
+lines-more (fault ∷ faults) (suc i) d h =
+    let next : suc i + 1 ≡ suc (i + 1) = omega arith in
+    ap (λ k. fault_lines (take k (fault ∷ faults))) next
+    ∙ ap (λ l. fault_line fault ++ l) (lines-more faults i d (omega arith))
+    ∙ sym (append_assoc (fault_line fault) (fault_lines (take i faults)) (fault_line (get_or faults i d)))
+
+-- the lines of faults go on by the next one
+pub noted-fault : (so_far put : Put) (faults : List Fault) (i : ℕ) (d : Fault) (x y z : Option (List ℕ)) (b c e : ℕ) → i < length faults → Noted so_far (fault_lines (take i faults)) x y b c → NotesLine so_far (fault_line (get_or faults i d)) put y z c e → Noted put (fault_lines (take (i + 1) faults)) x z b e
+noted-fault so_far put faults i d x y z b c e below noted more =
+    rw (lines-more faults i d below) (noted-more so_far put (fault_lines (take i faults)) (fault_line (get_or faults i d)) x y z b c e noted more)

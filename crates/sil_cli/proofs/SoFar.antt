@@ -3,8 +3,8 @@ use Rattle.std.proofs.Common.{ℕ, zero, suc, ◌≤◌, List, Option, None, Som
 use Rattle.std.specs.Prelude.{ℤ, pos, negsuc, slice_get}
 use Rattle.sil_model.specs.declared.end.End.{End}
 use Rattle.sil_model.specs.declared.end.End.TheVariants as ends
-use Rattle.sil_model.specs.declared.macros.Macro.{Macro}
-use Rattle.sil_model.specs.declared.macros.Macro.TheVariants.{Endex, Incra, Movd}
+use Rattle.sil_macros.specs.declared.names.Macro.{Macro}
+use Rattle.sil_macros.specs.declared.names.Macro.TheVariants.{Endex, Incra, Movd}
 use Rattle.sil_model.specs.declared.program.Arg.{Arg}
 use Rattle.sil_model.specs.declared.program.Flow.TheVariants.{Next, To, Exit, Trap}
 use Rattle.sil_model.specs.declared.program.Program.{Program}
@@ -69,6 +69,7 @@ unfolding clause
 clause-flows Endex args m = endex-flows args m
 clause-flows Incra args m = incra-flows args m
 clause-flows Movd args m = movd-flows args m
+clause-flows _ args m = tt
 
 abbrev StepsSoFar : Step → Type 0
 StepsSoFar (Goes s) = Unit {0}

@@ -8,12 +8,12 @@ use Rattle.sil_cli.specs.declared.ending.Ending.{Ending}
 use Rattle.sil_cli.specs.declared.ending.Ending.TheVariants as ending
 use Rattle.sil_cli.specs.declared.ending.Stop.{Stop}
 use Rattle.sil_cli.specs.declared.ending.Stop.TheVariants as stop
-use Rattle.sil_cli.specs.Answer.{Answers, Finishes, StopsSo, IsStopped, IsMissing, IsTooLong, IsNoted, IsUnless, IsNever}
+use Rattle.sil_cli.specs.Answer.{Answers, Finishes, StopsSo, IsStopped, IsMissing, IsTooLong, IsParameterFault, AreFaults, IsNoted, IsUnless, IsNever}
 use Rattle.sil_cli.specs.Endings.{stop_status, status_of, is_free, is_free_end}
 use Rattle.sil_cli.specs.Noted.{settled}
 use Rattle.sil_cli.specs.Report.{Comes, stage_of, has_run, finish_status}
 use Rattle.sil_cli.specs.Words.{Order}
-use Rattle.sil_cli.proofs.Codes.{is_run_code, is_stop_code, code-apart, words-of, store-of, stopped-of, missing-of, too-long-of, not-built-of, free-of, status-kept, put-failed, settled-noted, noted-unless, free-unless}
+use Rattle.sil_cli.proofs.Codes.{is_run_code, is_stop_code, code-apart, words-of, store-of, stopped-of, missing-of, too-long-of, parameters-of, faults-of, not-built-of, free-of, status-kept, put-failed, settled-noted, noted-unless, free-unless}
 
 -- the finishes of a command that didn't run
 unfinished : (end : Ending) (between units' : AllUnits) (failed : ℕ) → has_run end ≡ false → Finishes (has_run end) between units' failed → failed ≡ 0
@@ -64,6 +64,20 @@ module _ {order : Option Order} {code : ℕ} {files files' : Option Files} {b a 
       let is = too-long-of s.0 s.2 in
       told-stop order files h.ending s.0 IsTooLong h.performs.stops s.1 is.0 is.1
 
+  -- 4: the parameters of the files aren't legal
+  pub status-parameters : code ≡ 4 → IsStopped order files IsParameterFault
+  status-parameters e =
+      let s = stopped-of 4 h.ending b a (λ x. absurd (omega arith)) refl h.performs.causes.cause (kept 4 e (λ x. absurd (omega arith)) (λ x. absurd (omega arith)) (λ x. absurd (omega arith))) in
+      let is = parameters-of s.0 s.2 in
+      told-stop order files h.ending s.0 IsParameterFault h.performs.stops s.1 is.0 is.1
+
+  -- 3: lines of the source break rules
+  pub status-faults : code ≡ 3 → IsStopped order files AreFaults
+  status-faults e =
+      let s = stopped-of 3 h.ending b a (λ x. absurd (omega arith)) refl h.performs.causes.cause (kept 3 e (λ x. absurd (omega arith)) (λ x. absurd (omega arith)) (λ x. absurd (omega arith))) in
+      let is = faults-of s.0 s.2 in
+      told-stop order files h.ending s.0 AreFaults h.performs.stops s.1 is.0 is.1
+
   -- 16: the files are there, and give no program
   pub status-not-built : code ≡ 16 → IsStopped order files (λ s. s ≡ stop.NotBuilt)
   status-not-built e =
@@ -97,8 +111,6 @@ module _ {order : Option Order} {code : ℕ} {files files' : Option Files} {b a 
 
   pub status-never : IsNever code
   status-never = (
-    apart 3 (λ x. absurd (omega arith)) (λ x. absurd (omega arith)) (λ x. absurd (omega arith)) (λ x. absurd (omega arith)) refl refl,
-    apart 4 (λ x. absurd (omega arith)) (λ x. absurd (omega arith)) (λ x. absurd (omega arith)) (λ x. absurd (omega arith)) refl refl,
     apart 5 (λ x. absurd (omega arith)) (λ x. absurd (omega arith)) (λ x. absurd (omega arith)) (λ x. absurd (omega arith)) refl refl,
     apart 6 (λ x. absurd (omega arith)) (λ x. absurd (omega arith)) (λ x. absurd (omega arith)) (λ x. absurd (omega arith)) refl refl,
     apart 9 (λ x. absurd (omega arith)) (λ x. absurd (omega arith)) (λ x. absurd (omega arith)) (λ x. absurd (omega arith)) refl refl,

@@ -1,5 +1,5 @@
 -- What an accepted command does, in whole.
-use Rattle.std.proofs.Common.{◌≡◌, ℕ, ◌≤◌, Bool, true, false, nat_le, List, [], length, Option, Some, IfSome, ◌⊎◌, inl, inr, refl, ap, ◌∙◌, arith, lit≤, Ok}
+use Rattle.std.proofs.Common.{◌≡◌, ℕ, ◌≤◌, Bool, true, false, cond, nat_le, List, [], length, Option, Some, IfSome, ◌⊎◌, inl, inr, refl, ap, ◌∙◌, arith, lit≤, Ok, Err}
 use Rattle.std.proofs.lemmas.Bool.Decides.{nat_tests}
 use Rattle.std.specs.declared.result.Result.{Result}
 use Rattle.std.specs.FinMap.{get, insert}
@@ -9,19 +9,20 @@ use Rattle.sil_base.specs.Tapes.{Tapes, all_told, finished_tapes, failed_finishe
 use Rattle.sil_base.specs.Units.{AllUnits, tapes_of}
 use Rattle.sil_base.specs.declared.sink.Put.{Put}
 use Rattle.sil_base.specs.declared.sink.Put.TheVariants as put
-use Rattle.layout_params.specs.Parameters.{standard}
+use Rattle.layout_params.specs.Parameters.{Settings}
+use Rattle.layout_params.specs.Entries.{values_of}
+use Rattle.sil_cards.specs.Readings.{cards_of}
 use Rattle.sil_model.specs.declared.end.End.{End}
 use Rattle.sil_model.specs.declared.program.Program.{Program}
 use Rattle.sil_model.specs.Machine.{machine}
 use Rattle.rv_emit.specs.Ways.{as_end}
-use Rattle.sil_check.specs.Programs.{program_of}
 use Rattle.sil_install.specs.Installed.{IsInstalled}
 use Rattle.sil_cli.specs.declared.ending.Ending.{Ending}
 use Rattle.sil_cli.specs.declared.ending.Ending.TheVariants as ending
 use Rattle.sil_cli.specs.Answer.{Answers, Finishes}
-use Rattle.sil_cli.specs.Endings.{status_of, is_free_end}
-use Rattle.sil_cli.specs.Headline.{HasProgram, FinishesTapes, Reports, Does, Headline}
-use Rattle.sil_cli.specs.Inputs.{input_limit, standard_text, is_standard, program_in, built, and_then, inputs_of, program_at}
+use Rattle.sil_cli.specs.Endings.{status_of, is_free_end, stop_by}
+use Rattle.sil_cli.specs.Headline.{HasJob, FinishesTapes, Reports, Does, Headline}
+use Rattle.sil_cli.specs.Inputs.{input_limit, Cards, on_result, and_then, source_by, inputs_of, unless_faulty, parameters_by, job_in, job_at}
 use Rattle.sil_cli.specs.Files.{loaded, of_file}
 use Rattle.sil_cli.specs.Noted.{Noted, settled}
 use Rattle.sil_cli.specs.Report.{Comes, EndingCause, ran, has_run, text_of, finish_status}
@@ -29,11 +30,6 @@ use Rattle.sil_cli.specs.Words.{Order}
 use Rattle.sil_cli.proofs.Codes.{free-of, store-of, twelve-stays}
 
 -- ---- the files
-
--- the standard parameters, no tables, and a source that has a program
-program-of-form : (source : List ℕ) → program_in (record { params = standard_text; tables = []; source = source }) ≡ program_of source
-unfolding program_in is_standard
-program-of-form source = refl
 
 is-within : (a b : ℕ) → a ≤ b → nat_le a b ≡ true
 is-within a b h = grind (arith, nat_tests)
@@ -46,28 +42,35 @@ loads m name bytes is short =
 then-ok : {T U E : Type 0} (r : Result T E) (x : T) (next : T → Result U E) → r ≡ Ok x → and_then r next ≡ next x
 then-ok r x next e = rw e refl
 
-inputs-of-files : (order : Order) (m : Files) (program : Program) → (h : HasProgram order m program) → inputs_of order m ≡ Ok (record { params = standard_text; tables = []; source = h.source })
-inputs-of-files order m program h =
-    then-ok (loaded m order.params input_limit) standard_text _ (loads m order.params standard_text h.params (lit≤ tt))
-    ∙ then-ok (loaded m order.tables input_limit) [] _ (loads m order.tables [] h.tables (lit≤ tt))
-    ∙ then-ok (loaded m order.source input_limit) h.source _ (loads m order.source h.source h.source_file h.source_size)
+inputs-of-files : (order : Order) (m : Files) (program : Program) (settings : Settings) → (h : HasJob order m program settings) → inputs_of order m ≡ Ok (record { params = h.params; tables = h.tables; source = Cards h.cards })
+inputs-of-files order m program settings h =
+    then-ok (loaded m order.params input_limit) h.params _ (loads m order.params h.params h.params_file h.params_size)
+    ∙ then-ok (loaded m order.tables input_limit) h.tables _ (loads m order.tables h.tables h.tables_file h.tables_size)
+    ∙ then-ok (source_by (cards_of m order.source)) (Cards h.cards) _ (ap source_by h.source)
 
-pub program-of-files : (order : Order) (m : Files) (program : Program) → HasProgram order m program → program_at order m ≡ Ok program
-program-of-files order m program h =
-    then-ok (inputs_of order m) _ _ (inputs-of-files order m program h) ∙ ap built (program-of-form h.source ∙ h.source_program)
+job-of-inputs : (order : Order) (m : Files) (program : Program) (settings : Settings) → (h : HasJob order m program settings) → job_in (record { params = h.params; tables = h.tables; source = Cards h.cards }) ≡ Ok (record { program = program; settings = settings })
+unfolding job_in
+job-of-inputs order m program settings h =
+    then-ok (parameters_by h.params) (values_of h.params) _ (ap (λ o. unless_faulty o (values_of h.params)) h.faultless)
+    ∙ ap (λ r. on_result r (λ program. Ok (record { program = program; settings = (values_of h.params).settings })) (λ e. Err (stop_by e))) h.checked
+    ∙ ap (λ s. Ok (record { program = program; settings = s })) h.values
+
+pub job-of-files : (order : Order) (m : Files) (program : Program) (settings : Settings) → HasJob order m program settings → job_at order m ≡ Ok (record { program = program; settings = settings })
+job-of-files order m program settings h =
+    then-ok (inputs_of order m) _ _ (inputs-of-files order m program settings h) ∙ job-of-inputs order m program settings h
 
 -- ---- the run
 
 -- a stage of a run that has an end
-record Stands (order : Order) (m : Files) (program : Program) (end : End) (tapes tapes' : Tapes) (came : Ending) (files' : Option Files) (image : List ℕ) : Type 0 where
-  pub installed : IsInstalled image program standard.settings
+record Stands (order : Order) (m : Files) (program : Program) (settings : Settings) (end : End) (tapes tapes' : Tapes) (came : Ending) (files' : Option Files) (image : List ℕ) : Type 0 where
+  pub installed : IsInstalled image program settings
   pub ends : came ≡ ending.Ran (as_end end)
   pub files : files' ≡ Some (insert m order.image image)
   pub leaves : tapes' ≡ tapes
 
-stands : (order : Order) (m : Files) (program : Program) (end : End) (tapes tapes' : Tapes) (came : Ending) (files' : Option Files) → program_at order m ≡ Ok program → (machine program standard.settings tapes order.steps).end ≡ Some end → (c : Comes (Some order) m tapes came files' tapes') → Stands order m program end (machine program standard.settings tapes order.steps).tapes tapes' came files' c.image
-stands order m program end tapes tapes' came files' is ends c =
-    let stage : IfSome (ran (machine program standard.settings tapes order.steps) (insert m order.image c.image)) (λ s. (came ≡ s.ending) × (files' ≡ Some s.files) × (tapes' ≡ s.tapes)) = rw is at c.stage in
+stands : (order : Order) (m : Files) (program : Program) (settings : Settings) (end : End) (tapes tapes' : Tapes) (came : Ending) (files' : Option Files) → job_at order m ≡ Ok (record { program = program; settings = settings }) → (machine program settings tapes order.steps).end ≡ Some end → (c : Comes (Some order) m tapes came files' tapes') → Stands order m program settings end (machine program settings tapes order.steps).tapes tapes' came files' c.image
+stands order m program settings end tapes tapes' came files' is ends c =
+    let stage : IfSome (ran (machine program settings tapes order.steps) (insert m order.image c.image)) (λ s. (came ≡ s.ending) × (files' ≡ Some s.files) × (tapes' ≡ s.tapes)) = rw is at c.stage in
     let at_end = rw ends at stage in
     record { installed = rw is at c.installed; ends = at_end.0; files = at_end.1; leaves = at_end.2 }
 
@@ -91,12 +94,12 @@ free-twelve came b a cause calm (inl ten) = absurd (calm (store-of came b a caus
 free-twelve came b a cause calm (inr twelve) = twelve
 
 module _ {words : Option Order} {code : ℕ} {files files' : Option Files} {b a : ℕ} {units units' : AllUnits} {text text' : Option (List ℕ)} {n n' : ℕ} (h : Answers words code files files' b a units units' text text' n n') where
-  does : (order : Order) (m : Files) (program : Program) (end : End) → program_at order m ≡ Ok program → (machine program standard.settings (tapes_of units) order.steps).end ≡ Some end → Comes (Some order) m (tapes_of units) h.ending files' (tapes_of h.between)
+  does : (order : Order) (m : Files) (program : Program) (settings : Settings) (end : End) → job_at order m ≡ Ok (record { program = program; settings = settings }) → (machine program settings (tapes_of units) order.steps).end ≡ Some end → Comes (Some order) m (tapes_of units) h.ending files' (tapes_of h.between)
       → (code ≡ 12) ⊎ ((Rose n n' → ⊥) → Reports end h.failed code text text')
-      → (code ≡ 12) ⊎ Does order m program end (machine program standard.settings (tapes_of units) order.steps).tapes code files' units' text text' n n'
-  does order m program end is ends comes (inl twelve) = inl twelve
-  does order m program end is ends comes (inr reported) =
-      let s = stands order m program end (tapes_of units) (tapes_of h.between) h.ending files' is ends comes in
+      → (code ≡ 12) ⊎ Does order m program settings end (machine program settings (tapes_of units) order.steps).tapes code files' units' text text' n n'
+  does order m program settings end is ends comes (inl twelve) = inl twelve
+  does order m program settings end is ends comes (inr reported) =
+      let s = stands order m program settings end (tapes_of units) (tapes_of h.between) h.ending files' is ends comes in
       inr (record {
         image = comes.image;
         installed = s.installed;
@@ -106,15 +109,15 @@ module _ {words : Option Order} {code : ℕ} {files files' : Option Files} {b a 
         reports = reported;
       })
 
-  by-free : (order : Order) (m : Files) (program : Program) (end : End) → program_at order m ≡ Ok program → (Rose b a → ⊥) → (machine program standard.settings (tapes_of units) order.steps).end ≡ Some end → (free : Bool) → is_free_end h.ending ≡ free → (is_free_end h.ending ≡ false → Comes (Some order) m (tapes_of units) h.ending files' (tapes_of h.between))
-      → (code ≡ 12) ⊎ Does order m program end (machine program standard.settings (tapes_of units) order.steps).tapes code files' units' text text' n n'
-  by-free order m program end is calm ends true e told =
+  by-free : (order : Order) (m : Files) (program : Program) (settings : Settings) (end : End) → job_at order m ≡ Ok (record { program = program; settings = settings }) → (Rose b a → ⊥) → (machine program settings (tapes_of units) order.steps).end ≡ Some end → (free : Bool) → is_free_end h.ending ≡ free → (is_free_end h.ending ≡ false → Comes (Some order) m (tapes_of units) h.ending files' (tapes_of h.between))
+      → (code ≡ 12) ⊎ Does order m program settings end (machine program settings (tapes_of units) order.steps).tapes code files' units' text text' n n'
+  by-free order m program settings end is calm ends true e told =
       inl (twelve-stays h.put (status_of h.ending) h.failed code (free-twelve h.ending b a h.performs.causes.cause calm (free-of h.ending b a h.performs.causes.cause e)) h.status)
-  by-free order m program end is calm ends false e told =
+  by-free order m program settings end is calm ends false e told =
       let c = told e in
-      let s = stands order m program end (tapes_of units) (tapes_of h.between) h.ending files' is ends c in
-      does order m program end is ends c (reports h.put end h.ending h.failed code text text' n n' s.ends h.noted h.status)
+      let s = stands order m program settings end (tapes_of units) (tapes_of h.between) h.ending files' is ends c in
+      does order m program settings end is ends c (reports h.put end h.ending h.failed code text text' n n' s.ends h.noted h.status)
 
   pub headline : Headline words code files files' b a units units' text text' n n'
-  headline = λ order m program end accepted told has calm ends.
-      by-free order m program end (program-of-files order m program has) calm ends (is_free_end h.ending) refl (rw accepted at (rw told at h.performs.told))
+  headline = λ order m program settings end accepted told has calm ends.
+      by-free order m program settings end (job-of-files order m program settings has) calm ends (is_free_end h.ending) refl (rw accepted at (rw told at h.performs.told))

@@ -12,8 +12,9 @@ use Rattle.sil_cli.specs.Noted.{Noted, settled}
 use Rattle.sil_cli.specs.Report.{Comes, Leaves, Causes, has_run, text_of, finish_status}
 use Rattle.sil_cli.specs.declared.ending.Stop.{Stop}
 use Rattle.sil_cli.specs.declared.ending.Stop.TheVariants as stops
-use Rattle.sil_cli.specs.Inputs.{program_at}
+use Rattle.sil_cli.specs.Inputs.{job_at}
 use Rattle.sil_cli.specs.Words.{Order}
+use Rattle.sil_base.specs.declared.line.Fault.{Fault}
 
 -- the finishes that follow a run, and none without one
 abbrev pub Finishes : Bool → AllUnits → AllUnits → ℕ → Type 0
@@ -27,7 +28,7 @@ RefusesWords order end = (order ≡ None → end ≡ ending.Words) × (end ≡ e
 -- an order is stopped so by its files
 abbrev pub StopsSo : Option Order → Files → Stop → Type 0
 StopsSo None m stop = ⊥
-StopsSo (Some order) m stop = program_at order m ≡ Err stop
+StopsSo (Some order) m stop = job_at order m ≡ Err stop
 
 -- how an order ends: its causes; what it leaves; what stops it; and, unless a fault of the store or want of memory came first, what its stage says where the files are told
 pub record Performs (order : Option Order) (end : Ending) (files files' : Option Files) (b a : ℕ) (units units' : AllUnits) : Type 0 where
@@ -61,6 +62,14 @@ IsMissing stop = (name : List ℕ) × (stop ≡ stops.Missing name)
 abbrev pub IsTooLong : Stop → Type 0
 IsTooLong stop = (name : List ℕ) × (stop ≡ stops.TooLong name)
 
+-- the stop tells the fault of the parameters
+abbrev pub IsParameterFault : Stop → Type 0
+IsParameterFault stop = (fault : Fault) × (stop ≡ stops.Parameters fault)
+
+-- the stop tells the faults of the source
+abbrev pub AreFaults : Stop → Type 0
+AreFaults stop = (faults : List Fault) × (stop ≡ stops.Faults faults)
+
 -- a code, or what a fault of the store, want of memory or a fault of the notes puts in its place
 abbrev pub IsUnless : ℕ → ℕ → Type 0
 IsUnless expected code = (code ≡ expected) ⊎ (code ≡ 10) ⊎ (code ≡ 12) ⊎ (code ≡ 14)
@@ -71,4 +80,4 @@ IsNoted expected code = (code ≡ expected) ⊎ (code ≡ 12) ⊎ (code ≡ 14)
 
 -- no command answers these yet
 abbrev pub IsNever : ℕ → Type 0
-IsNever code = (code ≢ 3) × (code ≢ 4) × (code ≢ 5) × (code ≢ 6) × (code ≢ 9)
+IsNever code = (code ≢ 5) × (code ≢ 6) × (code ≢ 9)

@@ -1,9 +1,13 @@
--- The status and the line of each ending.
-use Rattle.std.specs.Prelude.{ℕ, ◌≤◌, List, ◌++◌, Bool, true, false, codes, decimal}
+-- The status and the lines of each ending.
+use Rattle.std.specs.Prelude.{ℕ, ◌≤◌, List, ◌∷◌, ◌++◌, Bool, true, false, ◌==◌, if◌then◌else◌, codes, decimal}
+use Rattle.std.specs.List.{flat_map}
+use Rattle.sil_base.specs.declared.line.Fault.{Fault}
 use Rattle.std.specs.declared.result.Result.{Result}
 use Rattle.std.specs.declared.result.Result.TheVariants.{Ok, Err}
-use Rattle.sil_check.specs.declared.source.CheckStop.{CheckStop}
-use Rattle.sil_check.specs.declared.source.CheckStop.TheVariants as check
+use Rattle.sil_check.specs.declared.stop.CheckStop.{CheckStop}
+use Rattle.sil_check.specs.declared.stop.CheckStop.TheVariants as check
+use Rattle.layout_params.specs.declared.stop.ParamStop.{ParamStop}
+use Rattle.layout_params.specs.declared.stop.ParamStop.TheVariants as params
 use Rattle.image_file.specs.declared.stop.ImageStop.{ImageStop}
 use Rattle.image_file.specs.declared.stop.ImageStop.TheVariants as image
 use Rattle.rv_emulate.specs.declared.end.CpuEnd.{CpuEnd}
@@ -33,6 +37,8 @@ abbrev pub stop_status : Stop → ℕ
 stop_status (stop.Missing name) = 13
 stop_status (stop.TooLong name) = 15
 stop_status (stop.StoreFault name) = 10
+stop_status (stop.Parameters fault) = 4
+stop_status (stop.Faults faults) = 3
 stop_status stop.NotBuilt = 16
 stop_status (stop.ImageRefused part) = 5
 stop_status stop.Memory = 12
@@ -52,6 +58,17 @@ numbered_line word number = word ++ decimal number ++ codes "\n"
 abbrev pub named_line : List ℕ → List ℕ → List ℕ
 named_line word name = word ++ name ++ codes "\n"
 
+-- the name of a file that is checked: the source, the tables or the parameters
+abbrev pub checked_file : ℕ → List ℕ
+checked_file file = if file == 0 then codes "source " else (if file == 1 then codes "tables " else codes "params ")
+
+-- a line that breaks a rule, as `source 12 C3`
+abbrev pub fault_line : Fault → List ℕ
+fault_line fault = checked_file fault.line.file ++ decimal fault.line.number ++ codes " " ++ fault.code.letter ∷ decimal fault.code.rule ++ codes "\n"
+
+abbrev pub fault_lines : List Fault → List ℕ
+fault_lines faults = flat_map fault_line faults
+
 abbrev pub run_line : CpuEnd → List ℕ
 run_line (run.Exit code) = numbered_line (codes "exit ") code
 run_line (run.Trap statement) = numbered_line (codes "trap ") statement
@@ -70,6 +87,8 @@ abbrev pub stop_line : Stop → List ℕ
 stop_line (stop.Missing name) = named_line (codes "missing ") name
 stop_line (stop.TooLong name) = named_line (codes "too long ") name
 stop_line (stop.StoreFault name) = named_line (codes "store fault ") name
+stop_line (stop.Parameters fault) = fault_line fault
+stop_line (stop.Faults faults) = fault_lines faults
 stop_line stop.NotBuilt = codes "not built\n"
 stop_line (stop.ImageRefused part) = numbered_line (codes "image refused I") part
 stop_line stop.Memory = codes "memory\n"
@@ -85,10 +104,16 @@ abbrev pub ending_of : Result CpuEnd Stop → Ending
 ending_of (Ok end) = ending.Ran end
 ending_of (Err stop) = ending.Stopped stop
 
--- the stop where a source has no program
+-- the stop where cards have no program
 abbrev pub stop_by : CheckStop → Stop
+stop_by (check.Faults faults) = stop.Faults faults
 stop_by check.NotBuilt = stop.NotBuilt
 stop_by check.Memory = stop.Memory
+
+-- the stop where parameters aren't legal
+abbrev pub stop_by_params : ParamStop → Stop
+stop_by_params (params.Fault fault) = stop.Parameters fault
+stop_by_params params.Memory = stop.Memory
 
 -- the stop where bytes are no image, or memory ran out as they were read
 abbrev pub refused_by : ImageStop → Stop
@@ -100,6 +125,8 @@ abbrev pub is_free : Stop → Bool
 is_free (stop.Missing name) = false
 is_free (stop.TooLong name) = false
 is_free (stop.StoreFault name) = true
+is_free (stop.Parameters fault) = false
+is_free (stop.Faults faults) = false
 is_free stop.NotBuilt = false
 is_free (stop.ImageRefused part) = false
 is_free stop.Memory = true

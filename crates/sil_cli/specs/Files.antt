@@ -23,9 +23,22 @@ abbrev pub StopCause : Stop → ℕ → ℕ → Type 0
 StopCause (stop.StoreFault name) before now = Rose before now
 StopCause (stop.Missing name) before now = Unit {0}
 StopCause (stop.TooLong name) before now = Unit {0}
+StopCause (stop.Parameters fault) before now = Unit {0}
+StopCause (stop.Faults faults) before now = Unit {0}
 StopCause stop.NotBuilt before now = Unit {0}
 StopCause (stop.ImageRefused part) before now = ⊥
 StopCause stop.Memory before now = Unit {0}
+
+-- a stop that comes after the loads
+abbrev pub IsCheckStop : Stop → Type 0
+IsCheckStop (stop.StoreFault name) = ⊥
+IsCheckStop (stop.Missing name) = ⊥
+IsCheckStop (stop.TooLong name) = ⊥
+IsCheckStop (stop.Parameters fault) = Unit {0}
+IsCheckStop (stop.Faults faults) = Unit {0}
+IsCheckStop stop.NotBuilt = Unit {0}
+IsCheckStop (stop.ImageRefused part) = ⊥
+IsCheckStop stop.Memory = Unit {0}
 
 -- what a save leaves of a store that tells its files
 abbrev pub SavesOr : {T E : Type 0} → Result T E → List ℕ → List ℕ → Files → Option Files → Type 0

@@ -1,13 +1,21 @@
 -- The files that a program is installed from.
-use Rattle.std.specs.Prelude.{ℕ, List, [], codes, Option, Some, None, Bool, ◌&&◌, nat_eq, if◌then◌else◌}
-use Rattle.std.specs.Cmp.Lexicographic.{pointwise}
+use Rattle.std.specs.Prelude.{ℕ, List, Option, Some, None}
 use Rattle.std.specs.declared.result.Result.{Result}
 use Rattle.std.specs.declared.result.Result.TheVariants.{Ok, Err}
 use Rattle.sil_base.specs.Files.{Files}
+use Rattle.sil_base.specs.declared.line.Fault.{Fault}
+use Rattle.layout_params.specs.Parameters.{Settings, Parameters}
+use Rattle.layout_params.specs.Entries.{values_of}
+use Rattle.layout_params.specs.Faults.{parameter_fault}
+use Rattle.sil_cards.specs.CardParts.{CardParts}
+use Rattle.sil_cards.specs.Readings.{cards_of}
+use Rattle.sil_cards.specs.declared.stop.CardStop.{CardStop}
+use Rattle.sil_cards.specs.declared.stop.CardStop.TheVariants as read
 use Rattle.sil_model.specs.declared.program.Program.{Program}
-use Rattle.sil_check.specs.Programs.{program_of}
+use Rattle.sil_check.specs.Verdicts.{verdict}
 use Rattle.sil_cli.specs.declared.ending.Stop.{Stop}
 use Rattle.sil_cli.specs.declared.ending.Stop.TheVariants as stop
+use Rattle.sil_cli.specs.Endings.{stop_by}
 use Rattle.sil_cli.specs.Words.{Order}
 use Rattle.sil_cli.specs.Files.{loaded}
 
@@ -15,11 +23,21 @@ use Rattle.sil_cli.specs.Files.{loaded}
 abbrev pub input_limit : ℕ
 input_limit = 2097152
 
--- the bytes of the parameters, the tables and the source
+-- what a source and its copies come to: cards, or the faults of their lines
+pub data Source : Type 0 where
+  Cards : List CardParts → Source
+  Faulty : List Fault → Source
+
+-- the bytes of the parameters and the tables, and what the source comes to
 pub record Inputs : Type 0 where
   pub params : List ℕ
   pub tables : List ℕ
-  pub source : List ℕ
+  pub source : Source
+
+-- a program, and what its image keeps of the parameters
+pub record Job : Type 0 where
+  pub program : Program
+  pub settings : Settings
 
 -- a value, or the stop that came first
 abbrev pub on_result : {T E X : Type 0} → Result T E → (T → X) → (E → X) → X
@@ -30,32 +48,49 @@ on_result (Err e) go stop = stop e
 abbrev pub and_then : {T U E : Type 0} → Result T E → (T → Result U E) → Result U E
 and_then r next = on_result r next (λ e. Err e)
 
+-- ---- what is loaded
+
+-- a file that can't be had stops the command; faults are told later, since the parameters come first
+abbrev pub refused_source : CardStop → Result Source Stop
+refused_source (read.Faults faults) = Ok (Faulty faults)
+refused_source (read.Missing name) = Err (stop.Missing name)
+refused_source (read.TooLong name) = Err (stop.TooLong name)
+refused_source (read.Failed name) = Err (stop.StoreFault name)
+refused_source read.Memory = Err stop.Memory
+
+abbrev pub source_by : Result (List CardParts) CardStop → Result Source Stop
+source_by r = on_result r (λ cards. Ok (Cards cards)) refused_source
+
 -- what is loaded of these files, or the stop of the first that can't be had
 abbrev pub inputs_of : Order → Files → Result Inputs Stop
 inputs_of order files =
     and_then (loaded files order.params input_limit) (λ params.
     and_then (loaded files order.tables input_limit) (λ tables.
-    and_then (loaded files order.source input_limit) (λ source.
+    and_then (source_by (cards_of files order.source)) (λ source.
     Ok (record { params = params; tables = tables; source = source }))))
 
--- the parameter file that is taken so far
-abbrev pub standard_text : List ℕ
-standard_text = codes "DESCR 16\nAOFF 0\nFOFF 8\nFLEN 2\nVOFF 12\nVLEN 4\nFNC 1\nMARK 2\nPTR 4\nSTTL 8\nTTL 16\nSTSIZE 64\nDYNSIZ 100\nOBSIZ 256\nUNITI 5\nUNITO 6\nUNITP 7\nDATE 01/01/70\n"
+-- ---- what is checked
 
-abbrev pub is_text : List ℕ → List ℕ → Bool
-is_text bytes text = pointwise nat_eq bytes text
+abbrev pub unless_faulty : Option Fault → Parameters → Result Parameters Stop
+unless_faulty (Some fault) p = Err (stop.Parameters fault)
+unless_faulty None p = Ok p
 
-unfoldable pub is_standard : List ℕ → Bool
-is_standard params = is_text params standard_text
+-- the parameters that a file gives, or its fault
+abbrev pub parameters_by : List ℕ → Result Parameters Stop
+parameters_by params = unless_faulty (parameter_fault params) (values_of params)
 
--- the program of inputs in the form that is taken so far: the standard parameters, no tables, and a source that has a program
-unfoldable pub program_in : Inputs → Option Program
-program_in inputs = if is_standard inputs.params && is_text inputs.tables [] then program_of inputs.source else None
+abbrev pub cards_by : Source → Result (List CardParts) Stop
+cards_by (Cards cards) = Ok cards
+cards_by (Faulty faults) = Err (stop.Faults faults)
 
-abbrev pub built : Option Program → Result Program Stop
-built None = Err stop.NotBuilt
-built (Some program) = Ok program
+-- the program of cards and the settings, or what the check says of them
+abbrev pub job_of : Parameters → List ℕ → List CardParts → Result Job Stop
+job_of p tables cards = on_result (verdict cards tables p) (λ program. Ok (record { program = program; settings = p.settings })) (λ e. Err (stop_by e))
 
--- the program that an order's files give, or the stop
-abbrev pub program_at : Order → Files → Result Program Stop
-program_at order files = and_then (inputs_of order files) (λ inputs. built (program_in inputs))
+-- the fault of the parameters comes first, then the faults of the cards, then what the check says
+unfoldable pub job_in : Inputs → Result Job Stop
+job_in inputs = and_then (parameters_by inputs.params) (λ p. and_then (cards_by inputs.source) (job_of p inputs.tables))
+
+-- the program and the settings that an order's files give, or the stop
+abbrev pub job_at : Order → Files → Result Job Stop
+job_at order files = and_then (inputs_of order files) job_in

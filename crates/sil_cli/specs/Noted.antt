@@ -11,6 +11,12 @@ NotesLine Ok line put before after b a = Puts put line before after × (b ≤ a)
 NotesLine Failed line put before after b a = (put ≡ Failed) × (after ≡ before) × (a ≡ b)
 NotesLine Memory line put before after b a = (put ≡ Memory) × (after ≡ before) × (a ≡ b)
 
+-- what comes of a line for which there is no memory
+abbrev pub without_memory : Put → Put
+without_memory Ok = Memory
+without_memory Failed = Failed
+without_memory Memory = Memory
+
 -- a text was noted whole, or a part of it from the front, up to the first put that was not Ok
 pub record Noted (put : Put) (text : List ℕ) (before after : Option (List ℕ)) (b a : ℕ) : Type 0 where
   pub whole : put ≡ Ok → IfSome before (λ t. after ≡ Some (t ++ text))

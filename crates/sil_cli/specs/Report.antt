@@ -5,7 +5,6 @@ use Rattle.std.specs.FinMap.{insert}
 use Rattle.sil_base.specs.Files.{Files}
 use Rattle.sil_base.specs.Stores.{ChangesFile}
 use Rattle.sil_base.specs.Tapes.{Tapes}
-use Rattle.layout_params.specs.Parameters.{standard}
 use Rattle.sil_model.specs.declared.end.End.{End}
 use Rattle.sil_model.specs.Machine.{machine}
 use Rattle.sil_model.specs.Runs.{Run}
@@ -16,7 +15,7 @@ use Rattle.sil_cli.specs.declared.ending.Ending.{Ending}
 use Rattle.sil_cli.specs.declared.ending.Ending.TheVariants as ending
 use Rattle.sil_cli.specs.Endings.{line_of, IsProgramEnd}
 use Rattle.sil_cli.specs.Files.{StopCause}
-use Rattle.sil_cli.specs.Inputs.{on_result, program_at}
+use Rattle.sil_cli.specs.Inputs.{on_result, job_at}
 use Rattle.sil_cli.specs.Noted.{finish_lines}
 use Rattle.sil_cli.specs.Words.{Order}
 
@@ -37,7 +36,7 @@ ran r files = option_map (λ end. record { ending = ending.Ran (as_end end); fil
 -- `go SRC TABLES PARAMS IMAGE N`, which saves these bytes as the image and runs them
 abbrev pub go_command : Order → Files → Tapes → List ℕ → Option Stage
 go_command order files tapes image =
-    on_result (program_at order files) (λ program. ran (machine program standard.settings tapes order.steps) (insert files order.image image)) (stopped files tapes)
+    on_result (job_at order files) (λ job. ran (machine job.program job.settings tapes order.steps) (insert files order.image image)) (stopped files tapes)
 
 -- any words
 abbrev pub stage_of : Option Order → Files → Tapes → List ℕ → Option Stage
@@ -46,7 +45,7 @@ stage_of (Some order) files tapes image = go_command order files tapes image
 
 -- the image of an order whose files give a program is an installed one
 abbrev pub HasInstalled : Option Order → Files → List ℕ → Type 0
-HasInstalled order files image = IfSome order (λ o. IfOk (program_at o files) (λ program. IsInstalled image program standard.settings))
+HasInstalled order files image = IfSome order (λ o. IfOk (job_at o files) (λ job. IsInstalled image job.program job.settings))
 
 -- a command ends as its stage says, with some installed image
 pub record Comes (order : Option Order) (files : Files) (tapes : Tapes) (end : Ending) (files' : Option Files) (tapes' : Tapes) : Type 0 where
@@ -57,7 +56,7 @@ pub record Comes (order : Option Order) (files : Files) (tapes : Tapes) (end : E
 -- however a command ends, the image's file alone may have changed, and that only where the order's files give a program
 pub record Keeps (order : Order) (files : Files) (files' : Option Files) : Type 0 where
   pub others : ChangesFile order.image files files'
-  pub all : (stop : Stop) → program_at order files ≡ Err stop → files' ≡ Some files
+  pub all : (stop : Stop) → job_at order files ≡ Err stop → files' ≡ Some files
 
 abbrev pub Leaves : Option Order → Files → Option Files → Type 0
 Leaves None files files' = files' ≡ Some files

@@ -1,9 +1,13 @@
 // The abstract machine and the installed image, on sources that are made from seeds.
-ghost use Rattle.std.specs.Prelude.{◌≤◌};
+ghost use Rattle.std.specs.Prelude.{◌≤◌, IfOk};
+ghost use Rattle.sil_model.specs.WellFormed.{IsWellFormed};
 
+use crate::build::{Job, make_job};
+use crate::ending::Stop;
+use crate::inputs::load_inputs;
+use crate::order::Order;
 use crate::run_image;
 use crate::tests::{files, go};
-use layout_params::Params;
 use rv_emulate::CpuEnd;
 use sil_base::Units;
 use sil_machine::{End, sim};
@@ -51,17 +55,33 @@ fn agree(end: End, cpu: CpuEnd) -> bool {
     }
 }
 
+/// The program of a source.
+fn job_of(alloc: Global, source: &[u8]) -> Result<Job, Stop>
+    ensures { IfOk result (λ j. IsWellFormed j.program j.params.settings) }
+{
+    let mut store = files(alloc, source, &[])?;
+    let order = Order {
+        source: "SRC",
+        tables: "TABLES",
+        params: "PARAMS",
+        image: "IMAGE",
+        steps: 9,
+    };
+    let inputs = load_inputs(alloc, &order, &mut store)?;
+    make_job(alloc, inputs)
+}
+
 /// Whether the machine and the image that is saved for a source end alike within n steps.
 fn ends_alike(alloc: Global, source: &[u8], n: u64) -> Result<bool, AllocError>
     requires { n ≤ 9 }
 {
     let answer = go(alloc, files(alloc, source, &[])?, "9")?;
     let image = answer.image.unwrap_or(Vec::new(alloc));
-    let Ok(program) = sil_check::check(alloc, source) else {
+    let Ok(job) = job_of(alloc, source) else {
         return Ok(false);
     };
     let mut units = Units::new();
-    let end = sim(alloc, &program, &Params::standard(), n, &mut units);
+    let end = sim(alloc, &job.program, &job.params, n, &mut units);
     match run_image(alloc, &image, n, &mut units) {
         Ok(cpu) => Ok(agree(end, cpu)),
         Err(_) => Ok(false),

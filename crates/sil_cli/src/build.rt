@@ -1,50 +1,106 @@
 // From inputs to the bytes of an image.
-ghost use Rattle.std.specs.Prelude.{◌≡◌, Some, None, true, IfSome, IfOk, IfErr, IsSomeAnd};
-ghost use Rattle.layout_params.specs.Parameters.{standard};
+ghost use Rattle.std.specs.Prelude.{◌≡◌, ◌≤◌, Ok, Err, false, length, IfOk, IfErr, MatchResult, IsOkAnd};
+ghost use Rattle.sil_cards.specs.Cards.{AreCards};
 ghost use Rattle.sil_install.specs.Installed.{IsInstalled};
 ghost use Rattle.rv_emit.specs.Emits.{CanEmit};
-ghost use Rattle.sil_cli.specs.Held.{inputs_by};
-ghost use Rattle.sil_cli.specs.Inputs.{is_standard, program_in};
+ghost use Rattle.sil_cli.specs.Endings.{is_free};
+ghost use Rattle.sil_cli.specs.Files.{IsCheckStop};
+ghost use Rattle.sil_cli.specs.Held.{inputs_by, job_by, AreRead, source_held};
+ghost use Rattle.sil_cli.specs.Inputs.{parameters_by, cards_by, job_of, job_in};
 
-use crate::inputs::Inputs;
-use layout_params::Params;
-use sil_check::{CheckStop, check};
+use crate::ending::Stop;
+use crate::inputs::{Inputs, Source};
+use layout_params::{Params, read_params};
+use sil_cards::Card;
+use sil_check::check;
 use sil_model::Program;
 use std::alloc::Global;
 
-/// The parameter file that is taken so far.
-const STANDARD: &[u8] =
-    b"DESCR 16\nAOFF 0\nFOFF 8\nFLEN 2\nVOFF 12\nVLEN 4\nFNC 1\nMARK 2\nPTR 4\nSTTL 8\nTTL 16\nSTSIZE 64\nDYNSIZ 100\nOBSIZ 256\nUNITI 5\nUNITO 6\nUNITP 7\nDATE 01/01/70\n";
-
-/// Whether a parameter file is the one that is taken so far.
-#[tactic(auto, unfolding(crate::specs::Inputs::is_standard))]
-fn is_standard(params: &[u8]) -> bool
-    ensures { result ≡ is_standard params.now }
-{
-    params == STANDARD
+/// A program, and the parameters that it is installed for.
+#[derive(Drop)]
+pub struct Job {
+    pub program: Program,
+    pub params: Params,
 }
 
-/// The program of these inputs.
-#[tactic(auto, unfolding(crate::specs::Inputs::program_in))]
-fn program(alloc: Global, inputs: &Inputs) -> Result<Program, CheckStop>
-    ensures built { IfOk result (λ p. program_in (inputs_by inputs.now) ≡ Some p) }
-    ensures not_built { IfErr result (λ e. e ≡ CheckStop.NotBuilt
-        → program_in (inputs_by inputs.now) ≡ None) }
-    ensures can_emit { IfOk result (λ p. CanEmit p standard.settings) }
+/// The parameters that a file gives.
+fn parameters(alloc: Global, params: &[u8]) -> Result<Params, Stop>
+    requires { length params.now ≤ 2097152 }
+    ensures told { MatchResult result
+        (λ p. parameters_by params.now ≡ Ok p)
+        (λ e. is_free e ≡ false → parameters_by params.now ≡ Err e) }
+    ensures cause { IfErr result IsCheckStop }
 {
-    if !is_standard(&inputs.params) || !inputs.tables.is_empty() {
-        return Err(CheckStop::NotBuilt);
+    Ok(read_params(alloc, params)?)
+}
+
+/// The cards of a source without faults.
+fn cards_of(source: Source) -> Result<Vec<Card>, Stop>
+    requires { AreRead source }
+    ensures cards { MatchResult result
+        (λ v. cards_by (source_held source) ≡ Ok v.items)
+        (λ e. cards_by (source_held source) ≡ Err e) }
+    ensures few { IfOk result (λ v. length v.items ≤ 40000) }
+    ensures good { IfOk result (λ v. AreCards v.items) }
+    ensures cause { IfErr result IsCheckStop }
+{
+    match source {
+        Source::Cards(cards) => Ok(cards),
+        Source::Faulty(faults) => Err(Stop::Faults(faults)),
     }
-    check(alloc, &inputs.source)
+}
+
+/// The program of cards and tables.
+fn program_of(
+    alloc: Global,
+    cards: &[Card],
+    tables: &[u8],
+    params: &Params,
+) -> Result<Program, Stop>
+    requires few { length cards.now ≤ 40000 }
+    requires good { AreCards cards.now }
+    ensures told { MatchResult result
+        (λ p. job_of params.now tables.now cards.now
+        ≡ Ok (record { program = p; settings = params.now.settings }))
+        (λ e. is_free e ≡ false → job_of params.now tables.now cards.now ≡ Err e) }
+    ensures can_emit { IfOk result (λ p. CanEmit p params.now.settings) }
+    ensures cause { IfErr result IsCheckStop }
+{
+    Ok(check(alloc, cards, tables, params)?)
+}
+
+/// The program of inputs, and its parameters.
+#[tactic(auto, unfolding(crate::specs::Inputs::job_in))]
+pub fn make_job(alloc: Global, inputs: Inputs) -> Result<Job, Stop>
+    requires short { length inputs.params.items ≤ 2097152 }
+    requires read { AreRead inputs.source }
+    ensures told { MatchResult result
+        (λ j. job_in (inputs_by inputs) ≡ Ok (job_by j))
+        (λ e. is_free e ≡ false → job_in (inputs_by inputs) ≡ Err e) }
+    ensures can_emit { IfOk result (λ j. CanEmit j.program j.params.settings) }
+    ensures cause { IfErr result IsCheckStop }
+{
+    let Inputs {
+        params,
+        tables,
+        source,
+    } = inputs;
+    let params = parameters(alloc, &params)?;
+    let cards = cards_of(source)?;
+    let program = program_of(alloc, &cards, &tables, &params)?;
+    Ok(Job { program, params })
 }
 
 /// The bytes of an image of the program of these inputs.
-pub fn build(alloc: Global, inputs: &Inputs) -> Result<Vec<u8>, CheckStop>
-    ensures installed { IfOk result (λ image. IsSomeAnd (program_in (inputs_by inputs.now))
-        (λ program. IsInstalled image.items program standard.settings)) }
-    ensures not_built { IfErr result (λ e. e ≡ CheckStop.NotBuilt
-        → program_in (inputs_by inputs.now) ≡ None) }
+pub fn build(alloc: Global, inputs: Inputs) -> Result<Vec<u8>, Stop>
+    requires short { length inputs.params.items ≤ 2097152 }
+    requires read { AreRead inputs.source }
+    ensures told { MatchResult result
+        (λ image. IsOkAnd (job_in (inputs_by inputs))
+        (λ j. IsInstalled image.items j.program j.settings))
+        (λ e. is_free e ≡ false → job_in (inputs_by inputs) ≡ Err e) }
+    ensures cause { IfErr result IsCheckStop }
 {
-    let program = program(alloc, inputs)?;
-    Ok(sil_install::install(alloc, &program, &Params::standard())?)
+    let job = make_job(alloc, inputs)?;
+    Ok(sil_install::install(alloc, &job.program, &job.params)?)
 }

@@ -1,13 +1,11 @@
 // The command that installs a source and runs the image.
 ghost use Rattle.std.specs.Prelude.{◌≡◌, ◌≤◌, Some, Err, false, IfSome, IfOk, IfErr, OnErr, MatchResult, IsOkAnd};
 ghost use Rattle.std.specs.FinMap.{insert};
-ghost use Rattle.layout_params.specs.Parameters.{standard};
 ghost use Rattle.sil_base.specs.Units.{tapes_of};
-ghost use Rattle.sil_model.specs.declared.program.Program.{Program};
 ghost use Rattle.sil_install.specs.Installed.{IsInstalled};
 ghost use Rattle.sil_cli.specs.Endings.{is_free, is_free_end, ending_of};
 ghost use Rattle.sil_cli.specs.Files.{StopCause};
-ghost use Rattle.sil_cli.specs.Inputs.{program_at};
+ghost use Rattle.sil_cli.specs.Inputs.{Job, job_at};
 ghost use Rattle.sil_cli.specs.Orders.{order_by};
 ghost use Rattle.sil_cli.specs.Report.{Comes, Keeps, Causes};
 
@@ -24,29 +22,29 @@ use std::alloc::Global;
 /// The bytes of an image of the program that an order's files give.
 fn prepare<S: Store>(alloc: Global, order: &Order<'_>, store: &mut S) -> Result<Vec<u8>, Stop>
     ensures told { IfSome (S.files store.old) (λ files. MatchResult result
-        (λ image. IsOkAnd (program_at (order_by order.now) files)
-        (λ program. IsInstalled image.items program standard.settings))
-        (λ e. is_free e ≡ false → program_at (order_by order.now) files ≡ Err e)) }
-    ensures installed { IfOk result (λ image. (program : Program)
-        × IsInstalled image.items program standard.settings) }
+        (λ image. IsOkAnd (job_at (order_by order.now) files)
+        (λ job. IsInstalled image.items job.program job.settings))
+        (λ e. is_free e ≡ false → job_at (order_by order.now) files ≡ Err e)) }
+    ensures installed { IfOk result (λ image. (job : Job)
+        × IsInstalled image.items job.program job.settings) }
     ensures kept { S.files store.new ≡ S.files store.old }
     ensures count { S.faults store.old ≤ S.faults store.new }
     ensures cause { IfErr result (λ e. StopCause e (S.faults store.old) (S.faults store.new)) }
 {
     let inputs = load_inputs(alloc, order, store)?;
-    Ok(build(alloc, &inputs)?)
+    build(alloc, inputs)
 }
 
 /// Installs the program that an order's files give, and saves its image.
 fn install<S: Store>(alloc: Global, order: &Order<'_>, store: &mut S) -> Result<Vec<u8>, Stop>
     ensures told { IfSome (S.files store.old) (λ files. MatchResult result
-        (λ image. IsOkAnd (program_at (order_by order.now) files)
-        (λ program. IsInstalled image.items program standard.settings)
+        (λ image. IsOkAnd (job_at (order_by order.now) files)
+        (λ job. IsInstalled image.items job.program job.settings)
         × (S.files store.new ≡ Some (insert files (order_by order.now).image image.items)))
-        (λ e. is_free e ≡ false → (program_at (order_by order.now) files ≡ Err e)
+        (λ e. is_free e ≡ false → (job_at (order_by order.now) files ≡ Err e)
         × (S.files store.new ≡ Some files))) }
-    ensures installed { IfOk result (λ image. (program : Program)
-        × IsInstalled image.items program standard.settings) }
+    ensures installed { IfOk result (λ image. (job : Job)
+        × IsInstalled image.items job.program job.settings) }
     ensures leaves { IfSome (S.files store.old)
         (λ files. Keeps (order_by order.now) files (S.files store.new)) }
     ensures count { S.faults store.old ≤ S.faults store.new }
@@ -70,7 +68,7 @@ pub fn go<S: Store, U: UnitSet>(
     ensures leaves { IfSome (S.files store.old)
         (λ files. Keeps (order_by order.now) files (S.files store.new)) }
     ensures stops { IfSome (S.files store.old) (λ files. IfErr result
-        (λ e. is_free e ≡ false → program_at (order_by order.now) files ≡ Err e)) }
+        (λ e. is_free e ≡ false → job_at (order_by order.now) files ≡ Err e)) }
     ensures still { OnErr result (U.seen units.new ≡ U.seen units.old) }
     ensures causes { Causes (ending_of result) (S.faults store.old) (S.faults store.new) }
 {

@@ -19,13 +19,13 @@ fn ends_within(alloc: Global, source: &[u8], instructions: u128) -> Result<CpuEn
     Ok(cpu.run(&mut units, instructions))
 }
 
-/// The start takes 6 instructions, ENDEX 14, INCRA 15 and MOVD 19.
+/// The start takes 6 instructions, ENDEX 14, INCRA 21 and MOVD 19.
 #[test]
 fn each_statement_takes_few_instructions(rt: HostRuntime) -> Result<(), Fail> {
     let alloc = rt.alloc();
     let rows: [(&[u8], u128); 3] = [
         (b" ENDEX X\nX DESCR\n END\n", 19),
-        (b" INCRA X,0\n ENDEX X\nX DESCR\n END\n", 34),
+        (b" INCRA X,0\n ENDEX X\nX DESCR\n END\n", 40),
         (b" MOVD X,X\n ENDEX X\nX DESCR\n END\n", 38),
     ];
     for (source, short) in rows {

@@ -10,6 +10,7 @@ mod counts;
 mod ending;
 mod files;
 mod inputs;
+mod lines;
 mod main_call;
 mod notes;
 mod order;

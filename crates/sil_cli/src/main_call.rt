@@ -2,7 +2,7 @@
 ghost use Rattle.std.specs.Prelude.{◌≡◌, map, Some, None};
 ghost use Rattle.std.specs.String.{string_bytes};
 ghost use Rattle.sil_base.specs.Causes.{Rose};
-ghost use Rattle.sil_cli.specs.Answer.{Finishes, Performs, Answers, StopsSo, IsStopped, IsMissing, IsTooLong, IsNoted, IsUnless, IsNever};
+ghost use Rattle.sil_cli.specs.Answer.{Finishes, Performs, Answers, StopsSo, IsStopped, IsMissing, IsTooLong, IsParameterFault, AreFaults, IsNoted, IsUnless, IsNever};
 ghost use Rattle.sil_cli.specs.declared.ending.Stop.{Stop};
 ghost use Rattle.sil_cli.specs.Endings.{stop_status};
 ghost use Rattle.sil_base.specs.Files.{Files};
@@ -76,6 +76,10 @@ pub fn sil_main<S: Store, N: Sink, U: UnitSet>(
         → IsStopped (order_of (map string_bytes words.now)) (S.files store.old) IsMissing }
     ensures too_long { result.code ≡ 15
         → IsStopped (order_of (map string_bytes words.now)) (S.files store.old) IsTooLong }
+    ensures parameters { result.code ≡ 4
+        → IsStopped (order_of (map string_bytes words.now)) (S.files store.old) IsParameterFault }
+    ensures faults { result.code ≡ 3
+        → IsStopped (order_of (map string_bytes words.now)) (S.files store.old) AreFaults }
     ensures not_built { result.code ≡ 16
         → IsStopped (order_of (map string_bytes words.now)) (S.files store.old)
         (λ s. s ≡ Stop.NotBuilt) }

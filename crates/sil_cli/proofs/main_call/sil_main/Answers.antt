@@ -1,5 +1,5 @@
 use Rattle.std.proofs.Common.{rules}
-use Rattle.sil_cli.proofs.Statuses.{status-words, status-refused, status-store, status-missing, status-too-long, status-not-built, status-stops, status-notes, status-never}
+use Rattle.sil_cli.proofs.Statuses.{status-words, status-refused, status-store, status-missing, status-too-long, status-parameters, status-faults, status-not-built, status-stops, status-notes, status-never}
 use Rattle.sil_cli.proofs.Whole.{headline}
 use Rattle.sil_cli.proofs.main_call.sil_main.Goals as goal
 
@@ -29,6 +29,12 @@ returns-clause-missing g c = status-missing (returns-clause-answers g c)
 
 pub returns-clause-too_long : goal.returns-clause-too_long
 returns-clause-too_long g c = status-too-long (returns-clause-answers g c)
+
+pub returns-clause-parameters : goal.returns-clause-parameters
+returns-clause-parameters g c = status-parameters (returns-clause-answers g c)
+
+pub returns-clause-faults : goal.returns-clause-faults
+returns-clause-faults g c = status-faults (returns-clause-answers g c)
 
 pub returns-clause-not_built : goal.returns-clause-not_built
 returns-clause-not_built g c = status-not-built (returns-clause-answers g c)
