@@ -23,7 +23,7 @@ use Rattle.sil_symbols.specs.Addresses.{size_of, text_length, part_cells, past_p
 use Rattle.sil_symbols.specs.Symbols.{size_names, value_of, extent}
 use Rattle.sil_symbols.specs.Rules.{with_fault, faults_from}
 use Rattle.sil_symbols.specs.Laws.{HasSize}
-use Rattle.sil_model.specs.declared.limits.TheConstants.{FIRST_CELL}
+use Rattle.sil_base.specs.declared.places.TheConstants.{FIRST_CELL}
 use Rattle.sil_model.specs.Start.{zero_cell}
 use Rattle.data_asm.specs.Texts.{text_cells, blank_cells}
 use Rattle.data_asm.specs.Fields.{operand_value, value_at, first_text, as_number}

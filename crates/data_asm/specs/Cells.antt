@@ -9,7 +9,7 @@ use Rattle.sil_operands.specs.declared.expr.Term.{Term}
 use Rattle.sil_operands.specs.declared.operand.Operand.{Operand}
 use Rattle.sil_symbols.specs.declared.stmt.Stmt.{Stmt}
 use Rattle.sil_symbols.specs.Symbols.{value_of}
-use Rattle.sil_model.specs.declared.limits.TheConstants.{FIRST_CELL}
+use Rattle.sil_base.specs.declared.places.TheConstants.{FIRST_CELL}
 use Rattle.sil_model.specs.Start.{zero_cell}
 use Rattle.data_asm.specs.Texts.{text_cells, blank_cells}
 use Rattle.data_asm.specs.Fields.{as_number, value_at, first_text, first_fields, second_fields, descriptor}

@@ -1,5 +1,5 @@
 -- The faults of data.
-use Rattle.std.specs.Prelude.{◌≡◌, ◌≢◌, ℕ, nat_le, List, [], length, Option, Some, None, ℤ, if◌then◌else◌, Bool, true, ◌&&◌}
+use Rattle.std.specs.Prelude.{ℕ, nat_le, List, length, Option, Some, None, ℤ, if◌then◌else◌, Bool, true, ◌&&◌}
 use Rattle.layout_params.specs.Parameters.{Parameters}
 use Rattle.layout_params.specs.Sizes.{flag_limit, value_limit}
 use Rattle.sil_base.specs.declared.line.Fault.{Fault}
@@ -11,8 +11,6 @@ use Rattle.sil_symbols.specs.declared.stmt.Stmt.{Stmt}
 use Rattle.sil_symbols.specs.Symbols.{value_of}
 use Rattle.sil_symbols.specs.Rules.{faults_from}
 use Rattle.data_asm.specs.Fields.{first_text, first_fields, second_fields, fit}
-use Rattle.data_asm.specs.declared.stop.DataStop.{DataStop}
-use Rattle.data_asm.specs.declared.stop.DataStop.TheVariants as stop
 
 -- each F of a statement, and each V or L, is within its limit
 abbrev pub data_fits : ℕ → ℕ → (List Term → Option ℤ) → Macro → List Operand → Bool
@@ -31,8 +29,3 @@ data_rule p source place s = if statement_fits p source s then None else Some 1
 -- the faults of the data of a source, whose letter is A
 unfoldable pub data_faults : Parameters → List Stmt → List Fault
 data_faults p source = faults_from 65 (data_rule p source) 0 source
-
--- a stop by faults is by those that there are
-abbrev pub IsStopFor : List Fault → DataStop → Type 0
-IsStopFor faults (stop.Faults found) = (faults ≡ found) × (found ≢ [])
-IsStopFor faults stop.Memory = Unit {0}

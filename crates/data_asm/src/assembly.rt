@@ -1,6 +1,7 @@
 // The static cells of a source.
 ghost use Rattle.std.specs.Prelude.{◌≡◌, ◌<◌, ◌≤◌, ◌^◌, ◌+◌, ◌*◌, ◌++◌, ◌∷◌, ◌&&◌, [], length, replicate, All, IfOk, IfErr, OnOk, true, pos};
 ghost use Rattle.std.specs.List.{list_all};
+ghost use Rattle.sil_base.specs.Faults.{IsStopFor};
 ghost use Rattle.sil_model.specs.Memory.{FitsCell};
 ghost use Rattle.sil_model.specs.Start.{limits_of, zero_cell};
 ghost use Rattle.sil_symbols.specs.Resolved.{Resolves};
@@ -9,19 +10,20 @@ ghost use Rattle.sil_symbols.specs.Symbols.{value_of, extent, IsWithinLimits};
 ghost use Rattle.data_asm.specs.Fields.{fit, descriptor};
 ghost use Rattle.data_asm.specs.Cells.{specifier, data_cells, cells_of, static_cells_of};
 ghost use Rattle.data_asm.specs.Texts.{text_cells};
-ghost use Rattle.data_asm.specs.Faults.{statement_fits, data_faults, IsStopFor};
+ghost use Rattle.data_asm.specs.Faults.{statement_fits, data_faults};
 
 use crate::faults::data_faults;
 use crate::fields::{Fields, first_fields, first_number, first_text, second_fields};
-use crate::source::Source;
-use crate::stop::DataStop;
+use crate::source::ResolvedSource;
 use crate::texts::{push_blanks, push_copies, push_text};
 use layout_params::{Cell, Descr, Layout, Params};
-use sil_base::Items;
+use sil_base::{FIRST_CELL, FaultStop, Items};
 use sil_macros::Macro;
-use sil_model::FIRST_CELL;
 use sil_symbols::{Stmt, Symbols, law_of_sizes, law_of_values};
 use std::alloc::{AllocError, Global};
+
+/// Why a source has no cells: the lines of data that break a rule, or want of memory.
+pub type DataStop = FaultStop;
 
 /// Appends so many descriptors of zeros.
 fn push_zeros(cells: &mut Vec<Cell>, count: u64) -> Result<(), AllocError>
@@ -81,7 +83,7 @@ fn push_string(cells: &mut Vec<Cell>, size: usize, at: i64, text: &[u8]) -> Resu
 /// Appends the cells of a statement, whose third cell has this address.
 fn push_data(
     cells: &mut Vec<Cell>,
-    source: &Source<'_>,
+    source: &ResolvedSource<'_>,
     at: i64,
     statement: &Stmt,
 ) -> Result<(), AllocError>
@@ -118,7 +120,7 @@ fn law_of_bytes(_bytes: &[u8])
 
 /// The cells of a statement whose data are within their limits, and whose third cell has this
 /// address, are cells of the machine.
-fn law_of_data(source: &Source<'_>, at: i64, statement: &Stmt)
+fn law_of_data(source: &ResolvedSource<'_>, at: i64, statement: &Stmt)
     requires { statement_fits source.now.params.now source.now.statements.now statement.now ≡ true }
     ensures { All (FitsCell (limits_of source.now.params.now.settings))
         (data_cells source.now.params.now.settings.sizes.descr
@@ -140,7 +142,7 @@ fn third_cell(size: u64, before: &[Cell]) -> i64
 }
 
 /// The static cells of a source whose data fit.
-fn static_cells(alloc: Global, source: &Source<'_>) -> Result<Vec<Cell>, AllocError>
+fn static_cells(alloc: Global, source: &ResolvedSource<'_>) -> Result<Vec<Cell>, AllocError>
     requires resolved { Resolves source.now.params.now source.now.statements.now source.now.symbols.now }
     requires few { length (static_cells_of source.now.params.now source.now.statements.now) ≤ 2 ^ 20 }
     requires fit { list_all (statement_fits source.now.params.now source.now.statements.now) source.now.statements.now ≡ true }
@@ -175,14 +177,14 @@ pub fn assemble(
     ensures faults { IfErr result (IsStopFor (data_faults params.now statements.now)) }
 {
     law_of_sizes();
-    let source = Source {
+    let source = ResolvedSource {
         params,
         statements,
         symbols,
     };
     let faults = data_faults(alloc, &source)?;
     if !faults.is_empty() {
-        return Err(DataStop::Faults(Items::of(faults)));
+        return Err(FaultStop::Faults(Items::of(faults)));
     }
     Ok(static_cells(alloc, &source)?)
 }

@@ -4,7 +4,7 @@ ghost use Rattle.sil_symbols.specs.Resolved.{Resolves};
 ghost use Rattle.sil_symbols.specs.Symbols.{value_of};
 ghost use Rattle.data_asm.specs.Fields.{value_at, first_text, first_fields, second_fields, is_within, fit, as_number, descriptor};
 
-use crate::source::Source;
+use crate::source::ResolvedSource;
 use layout_params::{Cell, Descr};
 use sil_operands::Operand;
 
@@ -18,7 +18,7 @@ pub(crate) struct Fields {
 
 /// The value of an operand, 0 where it is missing or null.
 #[tactic(auto, using(crate::proofs::FitLemmas::resolved_value))]
-fn value_at(source: &Source<'_>, operands: &[Operand], i: usize) -> i64
+fn value_at(source: &ResolvedSource<'_>, operands: &[Operand], i: usize) -> i64
     requires { Resolves source.now.params.now source.now.statements.now source.now.symbols.now }
     ensures { result ≡ value_at (value_of source.now.params.now source.now.statements.now) operands.now i }
 {
@@ -29,7 +29,7 @@ fn value_at(source: &Source<'_>, operands: &[Operand], i: usize) -> i64
 }
 
 /// The value of the first operand, 0 where it is negative.
-pub(crate) fn first_number(source: &Source<'_>, operands: &[Operand]) -> u64
+pub(crate) fn first_number(source: &ResolvedSource<'_>, operands: &[Operand]) -> u64
     requires { Resolves source.now.params.now source.now.statements.now source.now.symbols.now }
     ensures { result ≡ as_number (value_at (value_of source.now.params.now source.now.statements.now) operands.now 0) }
 {
@@ -47,7 +47,7 @@ pub(crate) fn first_text(operands: &[Operand]) -> &[u8]
 }
 
 /// The descriptor of a DESCR, and the first of a SPEC.
-pub(crate) fn first_fields(source: &Source<'_>, operands: &[Operand]) -> Fields
+pub(crate) fn first_fields(source: &ResolvedSource<'_>, operands: &[Operand]) -> Fields
     requires { Resolves source.now.params.now source.now.statements.now source.now.symbols.now }
     ensures { result ≡ first_fields (value_of source.now.params.now source.now.statements.now) operands.now }
 {
@@ -59,7 +59,7 @@ pub(crate) fn first_fields(source: &Source<'_>, operands: &[Operand]) -> Fields
 }
 
 /// The second descriptor of a SPEC.
-pub(crate) fn second_fields(source: &Source<'_>, operands: &[Operand]) -> Fields
+pub(crate) fn second_fields(source: &ResolvedSource<'_>, operands: &[Operand]) -> Fields
     requires { Resolves source.now.params.now source.now.statements.now source.now.symbols.now }
     ensures { result ≡ second_fields (value_of source.now.params.now source.now.statements.now) operands.now }
 {

@@ -5,10 +5,6 @@ mod assembly;
 mod faults;
 mod fields;
 mod source;
-mod stop;
-#[cfg(test)]
-mod tests;
 mod texts;
 
-pub use assembly::assemble;
-pub use stop::DataStop;
+pub use assembly::{DataStop, assemble};

@@ -1,8 +1,6 @@
 -- Parts of bytes, and the numbers in them.
 use Rattle.std.proofs.Common.{map, inl, inr, Bool, true, false, ◌||◌, ◌==◌, ◌≡◌, ◌∙◌, ℕ, zero, suc, ◌+◌, ◌*◌, ◌^◌, ◌<◌, ◌≤◌, List, [], ◌∷◌, ◌++◌, length, take, drop, refl, ap, sym, subst, arith, append_assoc, length-append}
 use Rattle.std.proofs.lemmas.List.{take-append-drop, append-nil, map-append, take_at, drop_at, drop-drop}
-use Rattle.std.proofs.lemmas.Bool.{cases_lt}
-use Rattle.layout_params.specs.Parameters.{is_bit_below}
 use Rattle.sil_macros.specs.declared.names.Macro.{Macro}
 use Rattle.sil_macros.specs.Macros.{number_of}
 use Rattle.sil_macros.proofs.FoundLemmas.{number_below}
@@ -55,27 +53,6 @@ pub read_again : (n : ℕ) (xs dst bytes : List ℕ) → length dst ≡ length x
 read_again n xs dst bytes h fit e read =
     let P : List ℕ → Type 0 = λ part. IsRead (λ k more. little_number k more) n part dst in
     read_back n xs dst h fit (subst P e read)
-
--- ---- flags
-
-either_true : (a b : Bool) → b ≡ true → (a || b) ≡ true
-either_true true b h = refl
-either_true false b h = h
-
-first_true : (a b : Bool) → a ≡ true → (a || b) ≡ true
-first_true true b h = refl
-first_true false b h = cc
-
-top_bit : (w k n : ℕ) → k < suc w → w ≤ k → n ≡ 2 ^ k → (n == 2 ^ w) ≡ true
-top_bit w k n lt le e =
-    let same : k ≡ w = omega arith in
-    let at : n ≡ 2 ^ w = e ∙ ap (λ m. 2 ^ m) same in
-    grind (arith, at)
-
--- a power of two below the width is a bit
-pub bit_below : (w k n : ℕ) → k < w → n ≡ 2 ^ k → is_bit_below w n ≡ true
-bit_below zero k n lt e = absurd (omega arith)
-bit_below (suc w) k n lt e = elim (cases_lt k w) [ inl below ↦ either_true (n == 2 ^ w) (is_bit_below w n) (bit_below w k n below e) | inr above ↦ first_true (n == 2 ^ w) (is_bit_below w n) (top_bit w k n lt above e) ]
 
 -- ---- entries
 

@@ -7,10 +7,11 @@ use Rattle.std.proofs.Math.Pow.{pow-lt}
 use Rattle.sil_base.specs.Bytes.{low_bytes}
 use Rattle.sil_base.proofs.Numbers.{length-low_bytes}
 use Rattle.sil_macros.specs.declared.names.Macro.{Macro}
-use Rattle.layout_params.specs.Parameters.{Settings, AreLegalSettings, AreBits, is_bit_below}
+use Rattle.layout_params.specs.Parameters.{Settings, AreLegalSettings, AreBits, is_bit_below, settings_numbers}
 use Rattle.layout_params.proofs.LegalLayouts.{IsLegal, legal}
-use Rattle.image_file.specs.Image.{Image, StatementEntry, IsImage, image_of, entry_of, places_rise, first_place}
-use Rattle.image_file.specs.Spelling.{parameters_of, numbers_in, settings_part, counts_part, counts_of, entry_part, spelling, heading}
+use Rattle.sil_base.specs.declared.places.TheConstants.{FIRST_WORD}
+use Rattle.image_file.specs.Image.{Image, StatementEntry, IsImage, image_of, entry_of, places_rise}
+use Rattle.image_file.specs.Spelling.{numbers_in, settings_part, counts_part, counts_of, entry_part, spelling, heading}
 use Rattle.image_file.specs.Reading.{FitAll, FitEntries, body_part}
 use Rattle.image_file.proofs.Parts.{more_than, length-entry_part}
 
@@ -52,7 +53,7 @@ flags_fit w (n ∷ ns) le h =
     let limit : 2 ^ w < 2 ^ 33 = pow-lt {i = w} {j = 33} (omega arith) in
     (omega arith, flags_fit w ns le h.2)
 
-pub parameters_fit : (s : Settings) → AreLegalSettings s → FitAll 8 (parameters_of s)
+pub parameters_fit : (s : Settings) → AreLegalSettings s → FitAll 8 (settings_numbers s)
 parameters_fit s h =
     let l : IsLegal s.sizes = legal s.sizes h.layout in
     let f : s.sizes.f_len ≤ 4 = grind (arith, l.f_width) in
@@ -82,13 +83,13 @@ entries_fit_bytes least end (e ∷ es) le rise cards =
     (omega arith, cards 0 e (omega arith), entries_fit_bytes (e.place + 1) end es le p.1 (λ k d lt. cards (suc k) d (omega arith)))
 
 pub statements_fit : (i : Image) → IsImage i → FitEntries i.statements
-statements_fit i h = entries_fit_bytes first_place (first_place + 4 * length i.words) i.statements (omega arith) h.places h.cards
+statements_fit i h = entries_fit_bytes FIRST_WORD (FIRST_WORD + 4 * length i.words) i.statements (omega arith) h.places h.cards
 
 -- ---- parts
 
-pub settings_parts : (s : Settings) (rest bytes : List ℕ) → bytes ≡ settings_part s ++ rest → bytes ≡ numbers_in 8 (parameters_of s) ++ (s.date ++ rest)
+pub settings_parts : (s : Settings) (rest bytes : List ℕ) → bytes ≡ settings_part s ++ rest → bytes ≡ numbers_in 8 (settings_numbers s) ++ (s.date ++ rest)
 unfolding settings_part
-settings_parts s rest bytes e = e ∙ append_assoc (numbers_in 8 (parameters_of s)) s.date rest
+settings_parts s rest bytes e = e ∙ append_assoc (numbers_in 8 (settings_numbers s)) s.date rest
 
 pub image_parts : (i : Image) (bytes : List ℕ) → bytes ≡ spelling i → bytes ≡ heading ++ (settings_part i.settings ++ (numbers_in 4 (counts_of i) ++ body_part i))
 unfolding spelling counts_part

@@ -1,9 +1,11 @@
 -- Images: what a program is installed as.
 use Rattle.std.specs.Prelude.{◌≡◌, ℕ, zero, suc, ◌+◌, ◌*◌, ◌/◌, ◌%◌, ◌^◌, ◌<◌, ◌≤◌, List, [], ◌∷◌, length, map, take, drop, All, Bool, true, ◌&&◌, ◌==◌, nat_lt, nat_le, if◌then◌else◌, IsTrue, slice_index}
 use Rattle.sil_base.specs.Bytes.{number, piece}
+use Rattle.sil_base.specs.declared.limits.TheConstants.{MAX_CELLS, MAX_CONSTANT_BYTES, MAX_STATEMENTS, MAX_TABLES, MAX_WORDS, TABLE_BYTES}
+use Rattle.sil_base.specs.declared.places.TheConstants.{FIRST_WORD}
 use Rattle.layout_params.specs.Parameters.{Settings, AreLegalSettings}
 use Rattle.sil_macros.specs.declared.names.Macro.{Macro}
-use Rattle.sil_model.specs.Start.{all_cells}
+use Rattle.layout_params.specs.Areas.{all_cells}
 
 -- where a statement's code begins, the number of its card, and its macro
 pub record StatementEntry : Type 0 where
@@ -11,7 +13,7 @@ pub record StatementEntry : Type 0 where
   pub card : ℕ
   pub name : Macro
 
--- the settings, the statements, the code words, the constants, the bytes and the kinds (0 a descriptor, 1 characters) of the static cells, and the tables in 4,096 bytes each
+-- the settings, the statements, the code words, the constants, the bytes and the kinds (0 a descriptor, 1 characters) of the static cells, and the bytes of the tables
 pub record Image : Type 0 where
   pub settings : Settings
   pub statements : List StatementEntry
@@ -39,11 +41,7 @@ image_of settings statements words constants cells kinds tables = record {
 
 -- the number of tables
 abbrev pub table_count : Image → ℕ
-table_count i = length i.tables / 4096
-
--- the place of the first word
-abbrev pub first_place : ℕ
-first_place = 0x1_0000
+table_count i = length i.tables / TABLE_BYTES
 
 -- places from here on are multiples of 4 that rise strictly, below an end
 abbrev pub places_rise : ℕ → ℕ → List StatementEntry → Bool
@@ -65,16 +63,16 @@ entries_fit tables (suc n) bytes = entry_fits tables (take 16 bytes) && entries_
 -- what an image keeps to
 pub record IsImage (i : Image) : Type 0 where
   pub settings : AreLegalSettings i.settings
-  pub statements : length i.statements ≤ 16384
+  pub statements : length i.statements ≤ MAX_STATEMENTS
   pub cards : All (λ e. e.card < 2 ^ 32) i.statements
-  pub few_words : length i.words ≤ 201310208
+  pub few_words : length i.words ≤ MAX_WORDS
   pub some_words : 1 ≤ length i.words
   pub wide_words : All (λ w. w < 2 ^ 32) i.words
-  pub constants : length i.constants ≤ 67108864
-  pub cell_count : all_cells i.settings (length i.kinds) ≤ 1048576
-  pub table_bytes : length i.tables ≤ 256 * 4096
-  pub whole_tables : length i.tables % 4096 ≡ 0
-  pub places : IsTrue (places_rise first_place (first_place + 4 * length i.words) i.statements)
+  pub constants : length i.constants ≤ MAX_CONSTANT_BYTES
+  pub cell_count : all_cells i.settings (length i.kinds) ≤ MAX_CELLS
+  pub table_bytes : length i.tables ≤ MAX_TABLES * TABLE_BYTES
+  pub whole_tables : length i.tables % TABLE_BYTES ≡ 0
+  pub places : IsTrue (places_rise FIRST_WORD (FIRST_WORD + 4 * length i.words) i.statements)
   pub cells : length i.cells ≡ length i.kinds * i.settings.sizes.descr
   pub kinds : All (λ k. k ≤ 1) i.kinds
   pub tables : IsTrue (entries_fit (table_count i) (length i.tables / 16) i.tables)

@@ -1,5 +1,3 @@
 pub mod Image
 pub mod Spelling
-pub mod Parts
-pub mod SettingsView
 pub mod Reading

@@ -2,28 +2,9 @@
 use Rattle.std.specs.Prelude.{ℕ, List, [], ◌∷◌, ◌++◌, length, codes}
 use Rattle.std.specs.List.{flat_map}
 use Rattle.sil_base.specs.Bytes.{low_bytes}
-use Rattle.layout_params.specs.Parameters.{Settings}
+use Rattle.layout_params.specs.Parameters.{Settings, settings_numbers}
 use Rattle.sil_macros.specs.Macros.{number_of}
 use Rattle.image_file.specs.Image.{Image, StatementEntry, table_count}
-
--- DESCR, AOFF, FOFF, FLEN, VOFF, VLEN, FNC, MARK, PTR, STTL, TTL, STSIZE, DYNSIZ and OBSIZ
-abbrev pub parameters_of : Settings → List ℕ
-parameters_of s =
-    s.sizes.descr
-    ∷ s.sizes.a_at
-    ∷ s.sizes.f_at
-    ∷ s.sizes.f_len
-    ∷ s.sizes.v_at
-    ∷ s.sizes.v_len
-    ∷ s.function_flag
-    ∷ s.mark_flag
-    ∷ s.pointer_flag
-    ∷ s.string_title_flag
-    ∷ s.title_flag
-    ∷ s.stack_size
-    ∷ s.dynamic_size
-    ∷ s.bucket_count
-    ∷ []
 
 -- numbers of n bytes each
 unfoldable pub numbers_in : ℕ → List ℕ → List ℕ
@@ -34,7 +15,7 @@ abbrev pub heading : List ℕ
 heading = codes "SILRV64\n" ++ low_bytes 4 1
 
 unfoldable pub settings_part : Settings → List ℕ
-settings_part s = numbers_in 8 (parameters_of s) ++ s.date
+settings_part s = numbers_in 8 (settings_numbers s) ++ s.date
 
 -- the numbers of statements, code words, constant bytes, static cells and tables
 abbrev pub counts_of : Image → List ℕ

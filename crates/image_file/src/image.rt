@@ -1,21 +1,20 @@
 // Images: what a program is installed as.
 ghost use Rattle.std.specs.Prelude.{◌≡◌, ◌*◌, ◌≤◌, MatchOption, IfSome, IsNone, IsTrue, ◌↔◌, length, map, slice_get};
 ghost use Rattle.std.specs.Option.{option_map};
-ghost use Rattle.layout_params.specs.Parameters.{AreLegalSettings};
-ghost use Rattle.sil_model.specs.Start.{all_cells};
+ghost use Rattle.layout_params.specs.Parameters.{AreLegalSettings, settings_numbers};
+ghost use Rattle.layout_params.specs.Areas.{all_cells};
 ghost use Rattle.image_file.specs.Image.{IsImage, image_of, entry_of};
-ghost use Rattle.image_file.specs.Spelling.{parameters_of};
 
-use crate::rules::{are_kinds, are_tables, places_rise};
-use crate::settings::ImageSettings;
-use layout_params::{Layout, Numbers, Params};
+use crate::rules::{are_kinds, are_tables, has_cells, has_room, places_rise};
+use layout_params::{Layout, Numbers, Params, Settings};
+use sil_base::{MAX_CELLS, MAX_CONSTANT_BYTES, MAX_STATEMENTS, MAX_TABLES, MAX_WORDS, TABLE_BYTES};
 use sil_macros::Macro;
 use std::marker::Model;
 
 /// The image of a program, which keeps to every limit.
 #[derive(Drop)]
 pub struct Image {
-    settings: ImageSettings,
+    settings: Settings,
     statements: Vec<(u64, u32, Macro)>,
     words: Vec<u32>,
     constants: Vec<u8>,
@@ -36,7 +35,7 @@ impl Model for Image {
 
 impl Image {
     /// The image of these parts: the place, card and macro of each statement, the code words, the
-    /// constants, DESCR bytes and one kind byte for each static cell, and 4,096 bytes for each table.
+    /// constants, DESCR bytes and one kind byte for each static cell, and the bytes of each table.
     pub fn new(
         params: &Params,
         statements: Vec<(u64, u32, Macro)>,
@@ -49,7 +48,7 @@ impl Image {
         ensures { let i = image_of params.now.settings statements.items words.items constants.items cells.items kinds.items tables.items
             in MatchOption result (¬ IsImage i) (λ j. j ≡ i) }
     {
-        let settings = ImageSettings::of(params);
+        let settings = params.settings().copied();
         if !is_image(
             &settings,
             &statements,
@@ -66,7 +65,7 @@ impl Image {
 
     /// The image of parts that are an image's.
     pub(crate) fn of_parts(
-        settings: ImageSettings,
+        settings: Settings,
         statements: Vec<(u64, u32, Macro)>,
         words: Vec<u32>,
         constants: Vec<u8>,
@@ -99,7 +98,7 @@ impl Image {
     /// The number of statements.
     pub fn statements(&self) -> u32
         ensures value { result ≡ length self.now.statements }
-        ensures most { result ≤ 16384 }
+        ensures most { result ≤ MAX_STATEMENTS }
     {
         self.statements.len() as u32
     }
@@ -115,7 +114,7 @@ impl Image {
     pub fn words(&self) -> &[u32]
         ensures value { result.now ≡ self.now.words }
         ensures some { 1 ≤ length result.now }
-        ensures most { length result.now ≤ 201310208 }
+        ensures most { length result.now ≤ MAX_WORDS }
     {
         &self.words
     }
@@ -123,7 +122,7 @@ impl Image {
     /// The constants.
     pub fn constants(&self) -> &[u8]
         ensures value { result.now ≡ self.now.constants }
-        ensures most { length result.now ≤ 67108864 }
+        ensures most { length result.now ≤ MAX_CONSTANT_BYTES }
     {
         &self.constants
     }
@@ -132,7 +131,7 @@ impl Image {
     pub fn cells(&self) -> &[u8]
         ensures value { result.now ≡ self.now.cells }
         ensures size { length result.now ≡ length self.now.kinds * self.now.settings.sizes.descr }
-        ensures most { length result.now ≤ 64 * 1048576 }
+        ensures most { length result.now ≤ 64 * MAX_CELLS }
     {
         &self.cells
     }
@@ -140,7 +139,7 @@ impl Image {
     /// The kinds of the static cells: 0 for a descriptor, 1 for characters.
     pub fn kinds(&self) -> &[u8]
         ensures value { result.now ≡ self.now.kinds }
-        ensures most { length result.now ≤ 1048576 }
+        ensures most { length result.now ≤ MAX_CELLS }
     {
         &self.kinds
     }
@@ -148,16 +147,16 @@ impl Image {
     /// The bytes of the tables.
     pub fn tables(&self) -> &[u8]
         ensures value { result.now ≡ self.now.tables }
-        ensures most { length result.now ≤ 1048576 }
+        ensures most { length result.now ≤ MAX_TABLES * TABLE_BYTES }
     {
         &self.tables
     }
 
     /// DESCR, AOFF, FOFF, FLEN, VOFF, VLEN, FNC, MARK, PTR, STTL, TTL, STSIZE, DYNSIZ and OBSIZ.
     pub fn parameters(&self) -> [u64; 14]
-        ensures { result ≡ parameters_of self.now.settings }
+        ensures { result ≡ settings_numbers self.now.settings }
     {
-        self.settings.parameters()
+        self.settings.to_numbers()
     }
 
     /// The date, as MM/DD/YY.
@@ -178,9 +177,9 @@ impl Image {
     /// The number of all cells: the static ones, and those after them.
     pub fn cell_total(&self) -> u64
         ensures value { result ≡ all_cells self.now.settings (length self.now.kinds) }
-        ensures most { result ≤ 1048576 }
+        ensures most { result ≤ MAX_CELLS }
     {
-        self.settings.cell_total(self.kinds.len())
+        self.settings.all_cells(self.kinds.len())
     }
 }
 
@@ -192,7 +191,7 @@ fn nth(statements: &[(u64, u32, Macro)], k: u32) -> Option<(u64, u32, Macro)>
 
 /// Whether these parts are an image's.
 fn is_image(
-    settings: &ImageSettings,
+    settings: &Settings,
     statements: &[(u64, u32, Macro)],
     words: &[u32],
     constants: &[u8],
@@ -204,7 +203,8 @@ fn is_image(
     ensures { let i = image_of settings.now statements.now words.now constants.now cells.now kinds.now tables.now
         in IsTrue result ↔ IsImage i }
 {
-    if !settings.has_room(
+    if !has_room(
+        settings,
         statements.len(),
         words.len(),
         constants.len(),
@@ -213,7 +213,7 @@ fn is_image(
     ) {
         return false;
     }
-    if !settings.has_cells(cells.len(), kinds.len()) {
+    if !has_cells(settings, cells.len(), kinds.len()) {
         return false;
     }
     if !places_rise(statements, words.len()) {

@@ -4,14 +4,10 @@
 mod cursor;
 mod entries;
 mod image;
-mod legal;
 mod numbers;
 mod reading;
 mod rules;
-mod settings;
 mod stop;
-#[cfg(test)]
-mod tests;
 mod writing;
 
 pub use image::Image;

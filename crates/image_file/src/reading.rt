@@ -1,6 +1,7 @@
 // The image of a file's bytes.
 ghost use Rattle.std.specs.Prelude.{◌≡◌, ◌+◌, ◌*◌, ◌/◌, ◌<◌, ◌≤◌, ◌++◌, true, List, ℕ, length, All, MatchResult, IfOk, IsOkAnd};
-ghost use Rattle.layout_params.specs.Parameters.{Settings, AreLegalSettings};
+ghost use Rattle.layout_params.specs.Parameters as parameters;
+ghost use Rattle.layout_params.specs.Parameters.{AreLegalSettings};
 ghost use Rattle.image_file.specs.Image.{Image, IsImage, entries_fit};
 ghost use Rattle.image_file.specs.Spelling.{spelling, heading, settings_part, counts_of};
 ghost use Rattle.image_file.specs.Reading.{body_part, data_part};
@@ -9,10 +10,10 @@ use crate::cursor::{cut, read_counts, read_parameters, read_words};
 use crate::entries::read_entries;
 use crate::image::Image;
 use crate::numbers::number_32;
-use crate::rules::{are_kinds, are_tables, places_rise};
-use crate::settings::ImageSettings;
+use crate::rules::{are_kinds, are_tables, has_room, places_rise};
 use crate::stop::ImageStop;
-use layout_params::Layout;
+use layout_params::{Layout, Settings};
+use sil_base::{MAX_TABLES, TABLE_BYTES};
 use std::alloc::Global;
 
 /// The image that these bytes spell.
@@ -42,16 +43,16 @@ fn read_heading(bytes: &[u8]) -> Result<&[u8], ImageStop>
 }
 
 /// The settings, and the bytes after them.
-fn read_settings(bytes: &[u8]) -> Result<(ImageSettings, &[u8]), ImageStop>
+fn read_settings(bytes: &[u8]) -> Result<(Settings, &[u8]), ImageStop>
     ensures legal { IfOk result (λ r. AreLegalSettings r.0) }
-    ensures again { (s : Settings) (rest : List ℕ) → AreLegalSettings s → bytes.now ≡ settings_part s ++ rest
+    ensures again { (s : parameters.Settings) (rest : List ℕ) → AreLegalSettings s → bytes.now ≡ settings_part s ++ rest
         → IsOkAnd result (λ r. (r.0 ≡ s) × (r.1.now ≡ rest)) }
 {
     let (parameters, rest) = cut(bytes, 112, 3)?;
     let (part, rest) = cut(rest, 8, 3)?;
     let mut date = [0; 8];
     date.copy_from_slice(part);
-    match ImageSettings::read(read_parameters(parameters), date) {
+    match Settings::new(read_parameters(parameters), date) {
         Some(settings) => Ok((settings, rest)),
         None => Err(ImageStop::Part(3)),
     }
@@ -74,11 +75,11 @@ fn read_data(
     kinds: usize,
     tables: usize,
 ) -> Result<Data<'_>, ImageStop>
-    requires { tables ≤ 1048576 }
+    requires { tables ≤ MAX_TABLES * TABLE_BYTES }
     ensures sizes { IfOk result (λ d. (length d.constants.now ≡ constants) × (length d.cells.now ≡ cells)
         × (length d.kinds.now ≡ kinds) × (length d.tables.now ≡ tables)) }
     ensures fit { IfOk result (λ d. All (λ k. k ≤ 1) d.kinds.now
-        × (entries_fit (length d.tables.now / 4096) (length d.tables.now / 16) d.tables.now ≡ true)) }
+        × (entries_fit (length d.tables.now / TABLE_BYTES) (length d.tables.now / 16) d.tables.now ≡ true)) }
     ensures whole { IfOk result (λ d. bytes.now ≡ d.constants.now ++ (d.cells.now ++ (d.kinds.now ++ d.tables.now))) }
     ensures again { (i : Image) → IsImage i → length i.constants ≡ constants → length i.cells ≡ cells
         → length i.kinds ≡ kinds → length i.tables ≡ tables → bytes.now ≡ data_part i
@@ -108,7 +109,7 @@ fn read_data(
 /// The image of the settings, the counts and the bytes after them.
 fn read_body(
     alloc: Global,
-    settings: ImageSettings,
+    settings: Settings,
     counts: [u32; 5],
     bytes: &[u8],
 ) -> Result<Image, ImageStop>
@@ -119,8 +120,9 @@ fn read_body(
     let [statements, words, constants, statics, tables] = counts;
     let words = words as usize;
     let statics = statics as usize;
-    let table_bytes = 4096 * tables as usize;
-    if !settings.has_room(
+    let table_bytes = TABLE_BYTES * tables as usize;
+    if !has_room(
+        &settings,
         statements as usize,
         words,
         constants as usize,

@@ -1,23 +1,55 @@
 // The rules of an image's parts.
-ghost use Rattle.std.specs.Prelude.{◌≡◌, ◌+◌, ◌*◌, ◌/◌, ◌^◌, ◌<◌, ◌≤◌, All, ◌↔◌, IsTrue, length, map, take};
+ghost use Rattle.std.specs.Prelude.{◌≡◌, ◌+◌, ◌*◌, ◌/◌, ◌%◌, ◌^◌, ◌<◌, ◌≤◌, All, ◌↔◌, IsTrue, length, map, take};
 ghost use Rattle.sil_base.specs.Bytes.{number};
-ghost use Rattle.image_file.specs.Image.{places_rise, first_place, entry_of, entry_fits, entries_fit};
+ghost use Rattle.layout_params.specs.Areas.{all_cells};
+ghost use Rattle.image_file.specs.Image.{places_rise, entry_of, entry_fits, entries_fit};
 
 use crate::numbers::{number_16, number_32, number_64};
+use layout_params::{Layout, Settings};
+use sil_base::{
+    FIRST_WORD, MAX_CELLS, MAX_CONSTANT_BYTES, MAX_STATEMENTS, MAX_TABLES, MAX_WORDS, TABLE_BYTES,
+};
 use sil_macros::Macro;
 
-/// The place of the first code word.
-const FIRST_PLACE: u64 = 0x1_0000;
+/// Whether counts keep to the limits: of statements, code words, constant bytes, static cells and
+/// table bytes.
+pub(crate) fn has_room(
+    settings: &Settings,
+    statements: usize,
+    words: usize,
+    constants: usize,
+    statics: usize,
+    table_bytes: usize,
+) -> bool
+    requires { statics < 2 ^ 63 }
+    ensures { IsTrue result ↔ ((statements ≤ MAX_STATEMENTS) × (1 ≤ words) × (words ≤ MAX_WORDS) × (constants ≤ MAX_CONSTANT_BYTES)
+        × (all_cells settings.now statics ≤ MAX_CELLS) × (table_bytes ≤ MAX_TABLES * TABLE_BYTES) × (table_bytes % TABLE_BYTES ≡ 0)) }
+{
+    statements as u64 <= MAX_STATEMENTS
+        && (1..=MAX_WORDS).contains(&words)
+        && constants <= MAX_CONSTANT_BYTES
+        && settings.all_cells(statics) <= MAX_CELLS
+        && table_bytes <= MAX_TABLES * TABLE_BYTES
+        && table_bytes % TABLE_BYTES == 0
+}
+
+/// Whether so many bytes are those of the static cells.
+pub(crate) fn has_cells(settings: &Settings, bytes: usize, statics: usize) -> bool
+    requires { statics ≤ MAX_CELLS }
+    ensures { IsTrue result ↔ (bytes ≡ statics * settings.now.sizes.descr) }
+{
+    bytes as u64 == statics as u64 * settings.numbers().descr()
+}
 
 /// Whether the places are multiples of 4 that rise strictly within so many code words.
 #[tactic(auto, using(crate::proofs::PartRules::cards_fit))]
 pub(crate) fn places_rise(statements: &[(u64, u32, Macro)], words: usize) -> bool
-    requires { words ≤ 201310208 }
-    ensures places { result ≡ places_rise first_place (first_place + 4 * words) (map entry_of statements.now) }
+    requires { words ≤ MAX_WORDS }
+    ensures places { result ≡ places_rise FIRST_WORD (FIRST_WORD + 4 * words) (map entry_of statements.now) }
     ensures cards { IsTrue result → All (λ e. e.card < 2 ^ 32) (map entry_of statements.now) }
 {
-    let end = FIRST_PLACE + 4 * words as u64;
-    let mut least = FIRST_PLACE;
+    let end = FIRST_WORD + 4 * words as u64;
+    let mut least = FIRST_WORD;
     for &(place, _card, _) in statements {
         if place < least || place % 4 != 0 || place >= end {
             return false;
@@ -37,10 +69,10 @@ pub(crate) fn are_kinds(kinds: &[u8]) -> bool
 /// Whether every entry of the tables fits.
 #[tactic(auto, using(crate::proofs::PartRules::entries_in_turn))]
 pub(crate) fn are_tables(tables: &[u8]) -> bool
-    requires { length tables.now ≤ 1048576 }
-    ensures { result ≡ entries_fit (length tables.now / 4096) (length tables.now / 16) tables.now }
+    requires { length tables.now ≤ MAX_TABLES * TABLE_BYTES }
+    ensures { result ≡ entries_fit (length tables.now / TABLE_BYTES) (length tables.now / 16) tables.now }
 {
-    let count = tables.len() / 4096;
+    let count = tables.len() / TABLE_BYTES;
     let mut rest = tables;
     while let Some((entry, more)) = rest.split_at_checked(16) {
         if !entry_fits(count, entry) {
@@ -54,7 +86,7 @@ pub(crate) fn are_tables(tables: &[u8]) -> bool
 /// Whether the sixteen bytes of an entry fit, by the number of tables.
 fn entry_fits(tables: usize, entry: &[u8]) -> bool
     requires size { length entry.now ≡ 16 }
-    requires count { tables ≤ 256 }
+    requires count { tables ≤ MAX_TABLES }
     ensures { result ≡ entry_fits tables entry.now }
 {
     let next = number_16(&entry[2..4]);

@@ -6,6 +6,7 @@ ghost use Rattle.image_file.specs.Spelling.{spelling, heading, settings_part, co
 
 use crate::image::Image;
 use crate::numbers::{put_16, put_32, put_64, put_all_32, put_all_64};
+use sil_base::TABLE_BYTES;
 use sil_macros::{Macro, number_of_macro};
 use std::alloc::{AllocError, Global};
 
@@ -52,7 +53,7 @@ fn put_counts(out: &mut Vec<u8>, image: &Image) -> Result<(), AllocError>
         image.words().len() as u32,
         image.constants().len() as u32,
         image.kinds().len() as u32,
-        (image.tables().len() / 4096) as u32,
+        (image.tables().len() / TABLE_BYTES) as u32,
     ];
     put_all_32(out, &counts)
 }

@@ -1,12 +1,12 @@
 -- Entries by their names.
 use Rattle.std.proofs.Common.{◌≡◌, ◌∙◌, ℕ, ◌+◌, ◌<◌, ◌≤◌, Bool, true, false, cond, not, ◌||◌, List, [], ◌∷◌, ◌++◌, map, length, drop, get_or, Some, None, Bor, refl, ap, sym, append_assoc, drop-cons, drop_of_length-le, add-one}
-use Rattle.std.specs.List.{list_any, position_or_len}
 use Rattle.std.proofs.lemmas.List.{map-append}
 use Rattle.layout_params.specs.declared.entries.Entry.{Entry as HeldEntry}
-use Rattle.layout_params.specs.Lines.{Entry, Value, is_word, parts_of, entries_from}
+use Rattle.sil_base.specs.Names.{is_word, texts_of}
+use Rattle.layout_params.specs.Lines.{Entry, Value, parts_of, entries_from}
 use Rattle.layout_params.specs.Entries.{entry_named}
 use Rattle.layout_params.specs.Faults.{name_fault, is_new_name, fault}
-use Rattle.layout_params.specs.Held.{entry_held, entries_held, texts_of}
+use Rattle.layout_params.specs.Held.{entry_held, entries_held}
 
 -- ---- a search by name
 
@@ -20,16 +20,6 @@ named_later entries name i d below other = rw (drop-cons entries i d below, othe
 
 pub named_nowhere : (entries : List HeldEntry) (name : List ℕ) (i : ℕ) → length entries ≤ i → entry_named (entries_held (drop i entries)) name ≡ None
 named_nowhere entries name i past = rw (drop_of_length-le entries past) refl
-
--- ---- a search among texts
-
-pub list_any-map : {A B : Type 0} (p : B → Bool) (f : A → B) (xs : List A) → list_any p (map f xs) ≡ list_any (λ x. p (f x)) xs
-list_any-map p f [] = refl
-list_any-map p f (x ∷ xs) = ap (λ b. p (f x) || b) (list_any-map p f xs)
-
-pub position_or_len-map : {A B : Type 0} (p : B → Bool) (f : A → B) (xs : List A) → position_or_len p (map f xs) ≡ position_or_len (λ x. p (f x)) xs
-position_or_len-map p f [] = refl
-position_or_len-map p f (x ∷ xs) = ap (λ n. cond (not (p (f x))) (1 + n) 0) (position_or_len-map p f xs)
 
 -- ---- the entries of lines, one line more
 

@@ -1,6 +1,5 @@
 pub mod LegalLayouts
 pub mod PackingLemmas
-pub mod LineLemmas
 pub mod EntryLemmas
 pub mod FaultLemmas
 pub mod LegalLemmas

@@ -3,10 +3,10 @@ use Rattle.std.proofs.Common.{◌≡◌, ℕ, zero, suc, ◌*◌, ◌^◌, ◌<�
 use Rattle.std.specs.Prelude.{pos, position, slice_index}
 use Rattle.std.proofs.lemmas.Bool.{eqb-true}
 use Rattle.std.proofs.Math.Nat.{pow-le-pow_right, pow-suc}
-use Rattle.layout_params.specs.Lines.{is_word}
+use Rattle.sil_base.specs.Names.{is_word}
 use Rattle.layout_params.specs.Sizes.{Sizes, is_legal, value_limit}
 use Rattle.layout_params.specs.Parameters.{Parameters, AreLegal, is_bit_below}
-use Rattle.layout_params.specs.Symbols.{symbol_names, symbol_values, symbol_of}
+use Rattle.layout_params.specs.Symbols.{symbol_names, symbol_values, symbol_in}
 use Rattle.layout_params.proofs.LegalLayouts.{legal, value_limit_below}
 
 abbrev EachBelow : List ℕ → Type 0
@@ -68,5 +68,5 @@ symbols_small p i h lt =
     let all : EachBelow (symbol_values p) = (descr, (twice_descr, (omega arith, (descr, (omega arith, (vmax, (function_flag, (mark_flag, (pointer_flag, (string_title_flag, (title_flag, (counts.0, (counts.1, (counts.2, (units.0, (units.1, (units.2, tt))))))))))))))))) in
     below_at (symbol_values p) i all lt
 
-pub symbol_here : (p : Parameters) (name : List ℕ) (at : ℕ) → Some at ≡ position (is_word name) symbol_names → symbol_of p name ≡ Some (pos (slice_index (symbol_values p) at))
-symbol_here p name at h = rw (sym h) refl
+pub symbol_here : (values name : List ℕ) (at : ℕ) → Some at ≡ position (is_word name) symbol_names → symbol_in values name ≡ Some (pos (slice_index values at))
+symbol_here values name at h = rw (sym h) refl

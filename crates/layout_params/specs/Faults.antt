@@ -2,14 +2,17 @@
 use Rattle.std.specs.Prelude.{ℕ, ◌+◌, ◌*◌, List, [], ◌∷◌, ◌++◌, length, codes, position, Option, Some, None, option_map, is_some, Bool, true, false, not, ◌&&◌, ◌==◌, nat_le}
 use Rattle.std.specs.List.{list_any, list_all}
 use Rattle.sil_base.specs.declared.line.Fault.{Fault}
+use Rattle.sil_base.specs.declared.line.TheConstants.{PARAMETER_FILE}
+use Rattle.sil_base.specs.Faults.{fault_at}
 use Rattle.layout_params.specs.Sizes.{Sizes, descr_fits, field_fits, f_width_fits, v_width_fits, fields_apart}
-use Rattle.layout_params.specs.Lines.{is_word, breaks_form, Entry, lines_of, entries_from}
+use Rattle.sil_base.specs.Names.{is_word}
+use Rattle.layout_params.specs.Lines.{breaks_form, Entry, lines_of, entries_from}
 use Rattle.layout_params.specs.Parameters.{Settings, Parameters, is_bit_below}
 use Rattle.layout_params.specs.Entries.{parameter_names, entry_named, line_named, parameters_in}
 
 -- L and the number of a rule, at a line of the parameter file
 abbrev pub fault : ℕ → ℕ → Fault
-fault rule line = record { line = record { file = 2; number = line }; code = record { letter = 76; rule = rule } }
+fault rule line = fault_at PARAMETER_FILE 76 line rule
 
 -- the first of two faults, if there is one
 abbrev pub or_next : Option Fault → Option Fault → Option Fault

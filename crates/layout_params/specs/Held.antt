@@ -9,9 +9,6 @@ use Rattle.layout_params.specs.Views.{sizes_of}
 use Rattle.layout_params.specs.Lines.{Value, Number, Date, Entry}
 use Rattle.layout_params.specs.Parameters.{Parameters}
 
-abbrev pub texts_of : List (Bor (List ℕ)) → List (List ℕ)
-texts_of texts = map (λ text. text.now) texts
-
 abbrev pub value_held : HeldValue → Value
 value_held (held.Number n) = Number n
 value_held (held.Date text) = Date text.now

@@ -3,6 +3,7 @@ pub mod Views
 pub mod Packing
 pub mod Laws
 pub mod Parameters
+pub mod Areas
 pub mod SettingsView
 pub mod ParamsView
 pub mod Lines

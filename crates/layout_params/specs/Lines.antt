@@ -1,31 +1,22 @@
 -- The lines of a parameter file, and what each of them says.
-use Rattle.std.specs.Prelude.{ℕ, ◌+◌, ◌^◌, List, [], ◌∷◌, length, take, drop, codes, position, Option, Some, None, option_map, option_and_then, is_some, Bool, true, false, not, ◌&&◌, ◌==◌, nat_le, nat_lt, nat_eq, if◌then◌else◌}
-use Rattle.std.specs.Char.{is_ascii_alphabetic, is_ascii_alphanumeric, is_ascii_digit}
-use Rattle.std.specs.Cmp.Lexicographic.{pointwise}
-use Rattle.std.specs.List.{list_all}
-use Rattle.std.specs.Str.Lines.{lines}
+use Rattle.std.specs.Prelude.{ℕ, ◌+◌, ◌^◌, List, [], ◌∷◌, length, map, take, drop, codes, position, Option, Some, None, option_map, option_and_then, is_some, Bool, true, not, ◌&&◌, ◌==◌, nat_le, nat_lt, if◌then◌else◌}
 use Rattle.std.specs.Str.Parse.{digits_value}
+use Rattle.sil_base.specs.Lines as texts
+use Rattle.sil_base.specs.Lines.{without_end}
+use Rattle.sil_base.specs.Names.{is_word, is_name, is_number}
 
 -- a line ends at LF, and a CR directly before it is dropped; bytes after the last LF are a line
 abbrev pub lines_of : List ℕ → List (List ℕ)
-lines_of bytes = lines bytes
+lines_of bytes = map without_end (texts.lines_of bytes)
 
 -- a line that is empty or begins with `*`
 abbrev pub is_skipped : List ℕ → Bool
 is_skipped [] = true
 is_skipped (c ∷ rest) = c == 42
 
-abbrev pub is_word : List ℕ → List ℕ → Bool
-is_word text word = pointwise nat_eq text word
-
--- 1 to 16 letters and digits, the first a letter
-abbrev pub is_name : List ℕ → Bool
-is_name [] = false
-is_name (first ∷ rest) = is_ascii_alphabetic first && list_all is_ascii_alphanumeric rest && nat_le (length rest) 15
-
 -- 1 to 19 digits with a value below 2 ^ 63
-abbrev pub is_number : List ℕ → Bool
-is_number digits = nat_le 1 (length digits) && nat_le (length digits) 19 && list_all is_ascii_digit digits && nat_lt (digits_value 10 digits) (2 ^ 63)
+abbrev pub is_value : List ℕ → Bool
+is_value text = is_number text && nat_le (length text) 19 && nat_lt (digits_value 10 text) (2 ^ 63)
 
 -- a number, or the bytes of a date
 pub data Value : Type 0 where
@@ -37,7 +28,7 @@ abbrev pub value_of : List ℕ → List ℕ → Option Value
 value_of name text =
     if is_word name (codes "DATE")
     then Some (Date text)
-    else if is_number text then Some (Number (digits_value 10 text)) else None
+    else if is_value text then Some (Number (digits_value 10 text)) else None
 
 abbrev pub named : List ℕ → List ℕ → Option (List ℕ × Value)
 named name text = if is_name name then option_map (λ value. (name, value)) (value_of name text) else None

@@ -16,6 +16,25 @@ pub record Settings : Type 0 where
   pub bucket_count : ℕ
   pub date : List ℕ
 
+-- the numbers of settings: DESCR, AOFF, FOFF, FLEN, VOFF, VLEN, FNC, MARK, PTR, STTL, TTL, STSIZE, DYNSIZ and OBSIZ
+abbrev pub settings_numbers : Settings → List ℕ
+settings_numbers s =
+    s.sizes.descr
+    ∷ s.sizes.a_at
+    ∷ s.sizes.f_at
+    ∷ s.sizes.f_len
+    ∷ s.sizes.v_at
+    ∷ s.sizes.v_len
+    ∷ s.function_flag
+    ∷ s.mark_flag
+    ∷ s.pointer_flag
+    ∷ s.string_title_flag
+    ∷ s.title_flag
+    ∷ s.stack_size
+    ∷ s.dynamic_size
+    ∷ s.bucket_count
+    ∷ []
+
 -- all parameters: with them the numbers of the units for input, output and punch (UNITI, UNITO, UNITP)
 pub record Parameters : Type 0 where
   pub settings : Settings

@@ -2,7 +2,7 @@
 use Rattle.std.specs.Prelude.{ℕ, ◌*◌, List, [], ◌∷◌, codes, position, Option, option_map, Bool, ℤ, pos, slice_index}
 use Rattle.std.specs.List.{list_any}
 use Rattle.layout_params.specs.Sizes.{value_limit}
-use Rattle.layout_params.specs.Lines.{is_word}
+use Rattle.sil_base.specs.Names.{is_word}
 use Rattle.layout_params.specs.Parameters.{Parameters}
 
 -- the names of the parameter symbols
@@ -52,6 +52,10 @@ symbol_values p =
 abbrev pub is_parameter_symbol : List ℕ → Bool
 is_parameter_symbol name = list_any (is_word name) symbol_names
 
+-- the value of a parameter symbol among these
+abbrev pub symbol_in : List ℕ → List ℕ → Option ℤ
+symbol_in values name = option_map (λ i. pos (slice_index values i)) (position (is_word name) symbol_names)
+
 -- the value of a parameter symbol
 abbrev pub symbol_of : Parameters → List ℕ → Option ℤ
-symbol_of p name = option_map (λ i. pos (slice_index (symbol_values p) i)) (position (is_word name) symbol_names)
+symbol_of p name = symbol_in (symbol_values p) name

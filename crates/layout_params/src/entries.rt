@@ -4,14 +4,14 @@ ghost use Rattle.std.specs.List.{list_all};
 ghost use Rattle.layout_params.specs.Lines.{value_of, parts_of, breaks_form, entries_from};
 ghost use Rattle.layout_params.specs.Entries.{entry_named, line_named, number_named, date_named};
 ghost use Rattle.layout_params.specs.Faults.{form_fault, is_parameter, is_new_name, name_fault, missing_fault};
-ghost use Rattle.layout_params.specs.Held.{texts_of, value_held, parts_held, entry_held, entries_held};
+ghost use Rattle.sil_base.specs.Names.{texts_of};
+ghost use Rattle.layout_params.specs.Held.{value_held, parts_held, entry_held, entries_held};
 ghost use Rattle.layout_params.specs.Stops.{IsStopFor};
 
 use crate::faults::fault;
-use crate::lines::{index_of_byte, is_name, is_skipped, number_of};
+use crate::lines::{is_skipped, number_of};
 use crate::stop::ParamStop;
-use crate::words::is_one_of;
-use sil_base::Fault;
+use sil_base::{Fault, MAX_FILE_BYTES, index_of_byte, is_name, is_one_of};
 use std::alloc::Global;
 
 const NAMES: [&[u8]; 18] = [
@@ -78,7 +78,7 @@ fn first_broken(lines: &[&[u8]]) -> Option<usize>
 
 /// The fault of the first line that isn't of the form.
 pub(crate) fn form_fault(lines: &[&[u8]]) -> Option<Fault>
-    requires { length lines.now ≤ 2097152 }
+    requires { length lines.now ≤ MAX_FILE_BYTES }
     ensures { result ≡ form_fault (texts_of lines.now) }
 {
     match first_broken(lines) {
@@ -114,7 +114,7 @@ fn is_new_name(entries: &[Entry<'_>], name: &[u8]) -> bool
 
 /// The entries of lines, whose names are distinct parameters.
 pub(crate) fn entries_of<'a>(alloc: Global, lines: &[&'a [u8]]) -> Result<Vec<Entry<'a>>, ParamStop>
-    requires { length lines.now ≤ 2097152 }
+    requires { length lines.now ≤ MAX_FILE_BYTES }
     ensures entries { IfOk result (λ v. entries_held v.items ≡ entries_from 1 (texts_of lines.now)) }
     ensures names { IfOk result (λ v. name_fault [] (entries_from 1 (texts_of lines.now)) ≡ None) }
     ensures fault { IfErr result (IsStopFor (name_fault [] (entries_from 1 (texts_of lines.now)))) }
@@ -148,7 +148,7 @@ fn are_named(entries: &[Entry<'_>], names: &[&[u8]]) -> bool
 
 /// The fault of a name that is missing, by the number of lines.
 pub(crate) fn missing_fault(lines: u32, entries: &[Entry<'_>]) -> Option<Fault>
-    requires { lines ≤ 2097152 }
+    requires { lines ≤ MAX_FILE_BYTES }
     ensures { result ≡ missing_fault lines (entries_held entries.now) }
 {
     if are_named(entries, &NAMES) {

@@ -11,21 +11,13 @@ ghost use Rattle.layout_params.specs.Held.{entries_held, drafted};
 use crate::candidate::Candidate;
 use crate::draft::Draft;
 use crate::entries::{Entry, line_named};
-use sil_base::{Fault, FaultCode, Line};
-
-const PARAMETER_FILE: u8 = 2;
+use sil_base::{Fault, PARAMETER_FILE, fault_at};
 
 /// A line of the parameter file that breaks a rule.
 pub(crate) fn fault(rule: u8, line: u32) -> Fault
     ensures { result ≡ fault rule line }
 {
-    Fault {
-        line: Line {
-            file: PARAMETER_FILE,
-            number: line,
-        },
-        code: FaultCode { letter: b'L', rule },
-    }
+    fault_at(PARAMETER_FILE, b'L', line, rule)
 }
 
 fn or_next(first: Option<Fault>, next: Option<Fault>) -> Option<Fault>

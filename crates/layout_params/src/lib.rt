@@ -15,9 +15,7 @@ mod params;
 mod reading;
 mod settings;
 mod stop;
-#[cfg(test)]
-mod tests;
-mod words;
+mod symbols;
 
 pub use cell::{Cell, Descr, Field};
 pub use laws::{
@@ -30,3 +28,4 @@ pub use params::Params;
 pub use reading::{STANDARD_PARAMS, read_params};
 pub use settings::Settings;
 pub use stop::ParamStop;
+pub use symbols::ParamSymbols;

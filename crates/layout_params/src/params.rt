@@ -8,13 +8,8 @@ ghost use Rattle.layout_params.specs.Symbols.{symbol_values, symbol_of};
 use crate::layout::Layout;
 use crate::numbers::Numbers;
 use crate::settings::Settings;
-use crate::words::index_of;
+use crate::symbols::ParamSymbols;
 use std::marker::Model;
-
-const SYMBOLS: [&[u8]; 17] = [
-    b"DESCR", b"SPEC", b"CPA", b"CPD", b"ALPHSZ", b"SIZLIM", b"FNC", b"MARK", b"PTR", b"STTL",
-    b"TTL", b"STSIZE", b"DYNSIZ", b"OBSIZ", b"UNITI", b"UNITO", b"UNITP",
-];
 
 /// The parameters of an installation, which are legal.
 #[derive(Debug, Drop)]
@@ -114,9 +109,15 @@ impl Params {
     pub fn symbol(&self, name: &[u8]) -> Option<i64>
         ensures { result ≡ symbol_of self.now name.now }
     {
-        match index_of(name, &SYMBOLS) {
-            Some(at) => Some(self.symbol_values()[at] as i64),
-            None => None,
+        self.symbols().value(name)
+    }
+
+    /// The parameter symbols.
+    pub fn symbols(&self) -> ParamSymbols
+        ensures { result ≡ symbol_values self.now }
+    {
+        ParamSymbols {
+            values: self.symbol_values(),
         }
     }
 

@@ -10,10 +10,10 @@ use crate::draft::{Draft, draft_of};
 use crate::entries::{Entry, entries_of, form_fault, missing_fault};
 use crate::faults::value_fault;
 use crate::lines::lines_of;
-use crate::numbers::Numbers;
 use crate::params::Params;
 use crate::settings::Settings;
 use crate::stop::ParamStop;
+use sil_base::MAX_FILE_BYTES;
 use std::alloc::Global;
 
 /// The eighteen lines of the standard parameters.
@@ -26,21 +26,8 @@ fn params_of(draft: &Draft<'_>) -> Params
     ensures value { result ≡ drafted draft.now }
     ensures legal { AreLegal result }
 {
-    let mut date = [0; 8];
-    date.copy_from_slice(draft.date);
     Params {
-        settings: Settings {
-            numbers: Numbers::of(&draft.sizes),
-            function_flag: draft.function_flag,
-            mark_flag: draft.mark_flag,
-            pointer_flag: draft.pointer_flag,
-            string_title_flag: draft.string_title_flag,
-            title_flag: draft.title_flag,
-            stack_size: draft.stack_size,
-            dynamic_size: draft.dynamic_size,
-            bucket_count: draft.bucket_count,
-            date,
-        },
+        settings: Settings::of_draft(draft),
         input_unit: draft.input_unit,
         output_unit: draft.output_unit,
         punch_unit: draft.punch_unit,
@@ -50,7 +37,7 @@ fn params_of(draft: &Draft<'_>) -> Params
 /// The parameters of a file: lines of a name, one blank and a value, each of the eighteen names
 /// once, in any order.
 pub fn read_params(alloc: Global, bytes: &[u8]) -> Result<Params, ParamStop>
-    requires { length bytes.now ≤ 2097152 }
+    requires { length bytes.now ≤ MAX_FILE_BYTES }
     ensures faultless { IfOk result (λ p. parameter_fault bytes.now ≡ None) }
     ensures values { IfOk result (λ p. p ≡ values_of bytes.now) }
     ensures legal { IfOk result AreLegal }

@@ -14,7 +14,7 @@ use Rattle.rv_emit.proofs.Copies.{copy_list, copy_is}
 use Rattle.rv_emit.proofs.Past.{past_list, past_is}
 use Rattle.rv_emit.proofs.Start.{start_list, start_is}
 use Rattle.rv_emit.proofs.Steps.{upper_fits, lower_fits}
-use Rattle.rv_emulate.specs.Memory.{scratch_place}
+use Rattle.sil_base.specs.declared.places.TheConstants.{FIRST_SCRATCH}
 
 abbrev pub AreInstrs : List Instr → Type 0
 AreInstrs [] = Unit {0}
@@ -40,7 +40,7 @@ pub start_are : (top : ℕ) → top < 2 ^ 31 - 2 ^ 11 → AreInstrs (start_list 
 start_are top small =
     let u = upper_fits top small in
     let l = lower_fits top in
-    let l' = lower_fits scratch_place in
+    let l' = lower_fits FIRST_SCRATCH in
     search rules
 
 -- an address of a static cell

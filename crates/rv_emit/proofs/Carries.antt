@@ -6,11 +6,12 @@ use Rattle.std.proofs.lemmas.List.{length-map, length-replicate}
 use Rattle.std.specs.Int.{w64, cast_unsigned}
 use Rattle.std.specs.List.{flat_map}
 use Rattle.sil_base.specs.Bytes.{piece, AreBytes}
-use Rattle.sil_base.specs.Tapes.{Tapes}
+use Rattle.unit_io.specs.Tapes.{Tapes}
 use Rattle.layout_params.specs.Packing.{IsPacked, packing}
-use Rattle.sil_model.specs.Start.{zero_cell, blank_cells, all_cells, first_state}
-use Rattle.image_file.specs.Image.{first_place}
-use Rattle.rv_emulate.specs.Memory.{scratch_size}
+use Rattle.sil_model.specs.Start.{zero_cell, first_state}
+use Rattle.layout_params.specs.Areas.{blank_cells, all_cells}
+use Rattle.sil_base.specs.declared.places.TheConstants.{FIRST_WORD}
+use Rattle.sil_base.specs.declared.limits.TheConstants.{SCRATCH_BYTES}
 use Rattle.rv_emulate.specs.States.{start, padded, first_memory, first_registers, cell_total}
 use Rattle.rv_emit.specs.Represents.{KeepsStack}
 use Rattle.rv_emit.specs.Ways.{ComesTo}
@@ -24,7 +25,7 @@ use Rattle.rv_emit.proofs.FirstMemory.{AllFit, fits_all, fits_all_static, packed
 use Rattle.rv_isa.specs.declared.instr.Instr.{Instr}
 use Rattle.layout_params.specs.declared.cell.Cell.{Cell}
 use Rattle.layout_params.specs.Sizes.{packed_16}
-use Rattle.layout_params.specs.Parameters.{Settings}
+use Rattle.layout_params.specs.Parameters.{Settings, Parameters}
 use Rattle.sil_model.specs.declared.end.End.TheVariants as ends
 use Rattle.sil_macros.specs.declared.names.Macro.{Macro}
 use Rattle.sil_macros.specs.declared.names.Macro.TheVariants.{Endex, Incra, Movd}
@@ -39,14 +40,15 @@ use Rattle.sil_model.specs.Costs.{cost}
 use Rattle.sil_model.specs.Valid.{IsValid}
 use Rattle.sil_model.specs.Prints.{writes_records}
 use Rattle.image_file.specs.Image.{Image}
-use Rattle.image_file.specs.Parts.{IsImageOf, kind_of}
+use Rattle.rv_emit.specs.Parts.{IsImageOf, kind_of}
 use Rattle.rv_emulate.specs.declared.end.CpuEnd.TheVariants.{Undefined, Budget}
 use Rattle.rv_emulate.specs.Memory.{Memory}
 use Rattle.rv_emulate.specs.States.{State, Outcome, On, Ended}
 use Rattle.rv_emit.specs.Represents.{Represents, PackedCells}
 use Rattle.rv_emit.specs.Ways.{place, Comes, EndsAs, Makes}
 use Rattle.rv_emit.specs.Code.{kind_place, exit_part, add_part, copy_part, body_of, emitted_words, emitted_places}
-use Rattle.rv_emit.specs.Emits.{HasCode, CanEmit}
+use Rattle.rv_emit.specs.Emits.{CanEmit}
+use Rattle.rv_emit.proofs.HasCode.{HasCode, all_code}
 use Rattle.rv_emit.proofs.Words.{StandAt}
 use Rattle.rv_emit.proofs.Registers.{IsFile}
 use Rattle.rv_emit.proofs.Steps.{at, comes_within}
@@ -109,11 +111,11 @@ module _ (program : Program) (settings : Settings) (can : CanEmit program settin
 
   has_code : (k : ℕ) (st : Statement) → slice_get program.statements k ≡ Some st → HasCode (length program.cells) st.name st.args
   has_code k st is =
-      subst (λ x. HasCode (length program.cells) x.name x.args) (get_or_from_slice_get program.statements k st st is) (can.statements k st (slice_get_within program.statements k st is))
+      subst (λ x. HasCode (length program.cells) x.name x.args) (get_or_from_slice_get program.statements k st st is) (all_code program settings can k st (slice_get_within program.statements k st is))
 
-  module _ (n : ℕ) (m : machine.State) (s : State) (valid : IsValid program settings m) (some : m.steps < n) (pc : s.pc ≡ place image last m.statement) (rep : Represents settings n m s) where
+  module _ (parameters : Parameters) (n : ℕ) (m : machine.State) (s : State) (valid : IsValid program settings m) (some : m.steps < n) (pc : s.pc ≡ place image last m.statement) (rep : Represents settings n m s) where
     abbrev Made : Statement → Type 0
-    Made st = Makes image settings last n (writes_records st.name) (cost st m) s (make_step st m)
+    Made st = Makes image settings last n (writes_records st.name) (cost program parameters st m) s (make_step program parameters st m)
 
     -- a turn of the statement that is here
     turn : (st : Statement) (i : ℕ) (rest : List Instr) → slice_get program.statements m.statement ≡ Some st → i < length program.cells → body_of st.name st.args ≡ check_list (kind_place (cell_address i)) ++ rest → 0 < length rest → Turn program settings image n m s st i rest
@@ -138,7 +140,7 @@ module _ (program : Program) (settings : Settings) (can : CanEmit program settin
         let a : ℕ = cell_address i in
         let here = is ∙ ap (λ z. Some (endex_statement card z)) h.2 in
         let body = ap (λ is. is ++ exit_part a) (check_is a) ∙ ap (λ is. check_list (kind_place a) ++ is) (exit_is a) in
-        let made = endex_made card i (turn (endex_statement card (pos a)) i (exit_list a) here h.1 body (omega arith)) in
+        let made = endex_made parameters card i (turn (endex_statement card (pos a)) i (exit_list a) here h.1 body (omega arith)) in
         subst (λ z. Made (endex_statement card z)) (sym h.2) made
     by_macro card Incra (Place d ∷ Number number ∷ []) h is =
         let i : ℕ = h.0.0 in
@@ -146,7 +148,7 @@ module _ (program : Program) (settings : Settings) (can : CanEmit program settin
         let c : ℕ = cast_unsigned w64 number in
         let here = is ∙ ap (λ z. Some (incra_statement card z number)) h.0.2 in
         let body = ap (λ is. is ++ add_part a c) (check_is a) ∙ ap (λ is. check_list (kind_place a) ++ is) (add_is a c) in
-        let made = incra_made card i number h.1 (turn (incra_statement card (pos a) number) i (add_list a c) here h.0.1 body (omega arith)) in
+        let made = incra_made parameters card i number h.1 (turn (incra_statement card (pos a) number) i (add_list a c) here h.0.1 body (omega arith)) in
         subst (λ z. Made (incra_statement card z number)) (sym h.0.2) made
     by_macro card Movd (Place to ∷ Place from ∷ []) h is =
         let i : ℕ = h.0.0 in
@@ -155,12 +157,12 @@ module _ (program : Program) (settings : Settings) (can : CanEmit program settin
         let b : ℕ = cell_address j in
         let here = is ∙ ap (λ z. Some (movd_statement card z from)) h.0.2 ∙ ap (λ z. Some (movd_statement card (pos a) z)) h.1.2 in
         let body = ap (λ is. is ++ copy_part a b) (check_is b) ∙ ap (λ is. check_list (kind_place b) ++ is) (copy_is a b) in
-        let made = movd_made card i j h.0.1 (turn (movd_statement card (pos a) (pos b)) j (copy_list a b (kind_place a)) here h.1.1 body (omega arith)) in
+        let made = movd_made parameters card i j h.0.1 (turn (movd_statement card (pos a) (pos b)) j (copy_list a b (kind_place a)) here h.1.1 body (omega arith)) in
         subst (λ z. Made (movd_statement card z from)) (sym h.0.2) (subst (λ z. Made (movd_statement card (pos a) z)) (sym h.1.2) made)
     by_macro card _ _ h is = absurd h
 
-  statement : (n : ℕ) (m : machine.State) (s : State) (st : Statement) → slice_get program.statements m.statement ≡ Some st → IsValid program settings m → m.steps < n → s.pc ≡ place image last m.statement → Represents settings n m s → Makes image settings last n (writes_records st.name) (cost st m) s (make_step st m)
-  statement n m s st is valid some pc rep = by_macro n m s valid some pc rep st.card st.name st.args (has_code m.statement st is) is
+  statement : (parameters : Parameters) (n : ℕ) (m : machine.State) (s : State) (st : Statement) → slice_get program.statements m.statement ≡ Some st → IsValid program settings m → m.steps < n → s.pc ≡ place image last m.statement → Represents settings n m s → Makes image settings last n (writes_records st.name) (cost program parameters st m) s (make_step program parameters st m)
+  statement parameters n m s st is valid some pc rep = by_macro parameters n m s valid some pc rep st.card st.name st.args (has_code m.statement st is) is
 
   -- ---- the start
 
@@ -226,8 +228,8 @@ module _ (program : Program) (settings : Settings) (can : CanEmit program settin
       tables = omega (arith, tables_long);
     }
 
-    scratch_long : length memory.scratch ≡ scratch_size
-    scratch_long = length-replicate {A = ℕ} scratch_size 0
+    scratch_long : length memory.scratch ≡ SCRATCH_BYTES
+    scratch_long = length-replicate {A = ℕ} SCRATCH_BYTES 0
 
     top_small : top < 2 ^ 31 - 2 ^ 11
     top_small = stack_low settings (length program.cells) can.standard can.well_formed.cell_count
@@ -235,28 +237,28 @@ module _ (program : Program) (settings : Settings) (can : CanEmit program settin
     file0 : IsFile (first_registers n)
     file0 = file_set (set (replicate 32 0) 25 n) 27 n (file_set (replicate 32 0) 25 n zero_file (omega (arith, small))) (omega (arith, small))
 
-    stand_here : StandAt image.words first_place (start_list top)
+    stand_here : StandAt image.words FIRST_WORD (start_list top)
     stand_here = codes.stand_start program settings few image of words_are places_are top refl
 
-    inside_here : Inside image last first_place 24
+    inside_here : Inside image last FIRST_WORD 24
     inside_here = codes.inside_start program settings few image of words_are places_are
 
     abbrev ys : List ℕ
-    ys = started image last s0 first_place top stand_here inside_here top_small (first_registers n) file0 memory room (omega (arith, scratch_long))
+    ys = started image last s0 FIRST_WORD top stand_here inside_here top_small (first_registers n) file0 memory room (omega (arith, scratch_long))
 
     abbrev m' : Memory
-    m' = stacked image last s0 first_place top stand_here inside_here top_small (first_registers n) file0 memory room (omega (arith, scratch_long))
+    m' = stacked image last s0 FIRST_WORD top stand_here inside_here top_small (first_registers n) file0 memory room (omega (arith, scratch_long))
 
     abbrev t0 : State
-    t0 = at image s0 (first_place + 24) ys m'
+    t0 = at image s0 (FIRST_WORD + 24) ys m'
 
     kept : Kept (first_registers n) ys
-    kept = started_kept image last s0 first_place top stand_here inside_here top_small (first_registers n) file0 memory room (omega (arith, scratch_long))
+    kept = started_kept image last s0 FIRST_WORD top stand_here inside_here top_small (first_registers n) file0 memory room (omega (arith, scratch_long))
 
     way : Comes image last false 2000 s0 (On t0)
     unfolding start
     way =
-        comes_within image last false 6 2000 s0 (On t0) (omega arith) (starts image last s0 first_place top stand_here inside_here top_small (first_registers n) file0 memory room (omega (arith, scratch_long)))
+        comes_within image last false 6 2000 s0 (On t0) (omega arith) (starts image last s0 FIRST_WORD top stand_here inside_here top_small (first_registers n) file0 memory room (omega (arith, scratch_long)))
 
     entered : t0.pc ≡ place image last 0
     entered = sym (codes.place_is program settings few image of words_are places_are 0 ∙ codes.first_entry_is program settings few image of words_are places_are)
@@ -265,9 +267,9 @@ module _ (program : Program) (settings : Settings) (can : CanEmit program settin
     scratch_packed : KeepsStack (first_state program settings tapes) m'
     unfolding first_state
     scratch_packed = record {
-      size = length-stack top (replicate scratch_size 0) (omega (arith, scratch_long)) ∙ scratch_long;
-      current = first_word top (replicate scratch_size 0) (omega (arith, scratch_long)) (omega (arith, top_small));
-      previous = second_word top (replicate scratch_size 0) (omega (arith, scratch_long)) (omega (arith, top_small));
+      size = length-stack top (replicate SCRATCH_BYTES 0) (omega (arith, scratch_long)) ∙ scratch_long;
+      current = first_word top (replicate SCRATCH_BYTES 0) (omega (arith, scratch_long)) (omega (arith, top_small));
+      previous = second_word top (replicate SCRATCH_BYTES 0) (omega (arith, scratch_long)) (omega (arith, top_small));
     }
 
     packed_first : PackedCells packed_16 all m'
@@ -288,7 +290,7 @@ module _ (program : Program) (settings : Settings) (can : CanEmit program settin
         cells = subst AreBytes (sym first_cells) (AreBytes-packed settings can.standard all all_fit);
         kinds = subst AreBytes (sym first_kinds) (AreBytes-kinds all);
         tables = subst AreBytes (sym of.tables) (AreBytes-tables program.tables);
-        scratch = AreBytes-stack top (replicate scratch_size 0) (AreBytes-zeros scratch_size);
+        scratch = AreBytes-stack top (replicate SCRATCH_BYTES 0) (AreBytes-zeros SCRATCH_BYTES);
       };
       tables = of.tables;
       stack = scratch_packed;
@@ -303,14 +305,16 @@ module _ (program : Program) (settings : Settings) (can : CanEmit program settin
 
 -- ---- all of it
 
-pub carries : (program : Program) (settings : Settings) → CanEmit program settings → Carries program settings (emitted_words program settings) (emitted_places program settings) (last_place program settings)
-carries program settings can image of words_are places_are = record {
-  entries = codes.entries program settings can.well_formed.statements image of words_are places_are;
-  beyond = codes.beyond program settings can.well_formed.statements image of words_are places_are;
-  last_apart = codes.last_apart program settings can.well_formed.statements image of words_are places_are;
-  first_apart = codes.first_apart program settings can.well_formed.statements image of words_are places_are;
-  begins = λ tapes n small. begins program settings can image of words_are places_are tapes n small;
-  statement = λ n m s st small is valid some pc rep. statement program settings can image of words_are places_are n m s st is valid some pc rep;
-  bound = λ n m s small lt valid spent pc rep. bound program settings can image of words_are places_are n m s lt spent pc rep;
-  past = λ n m s small all valid pc rep. past program settings can image of words_are places_are n m s all pc rep;
-}
+pub carries : (program : Program) (parameters : Parameters) → CanEmit program parameters.settings → Carries program parameters (emitted_words program parameters.settings) (emitted_places program parameters.settings) (last_place program parameters.settings)
+carries program parameters can image of words_are places_are =
+    let settings = parameters.settings in
+    record {
+      entries = codes.entries program settings can.well_formed.statements image of words_are places_are;
+      beyond = codes.beyond program settings can.well_formed.statements image of words_are places_are;
+      last_apart = codes.last_apart program settings can.well_formed.statements image of words_are places_are;
+      first_apart = codes.first_apart program settings can.well_formed.statements image of words_are places_are;
+      begins = λ tapes n small. begins program settings can image of words_are places_are tapes n small;
+      statement = λ n m s st small is valid some pc rep. statement program settings can image of words_are places_are parameters n m s st is valid some pc rep;
+      bound = λ n m s small lt valid spent pc rep. bound program settings can image of words_are places_are n m s lt spent pc rep;
+      past = λ n m s small all valid pc rep. past program settings can image of words_are places_are n m s all pc rep;
+    }

@@ -9,11 +9,11 @@ use Rattle.layout_params.specs.declared.cell.Cell.{Cell}
 use Rattle.layout_params.specs.declared.cell.Cell.TheVariants.{Descr, Chars}
 use Rattle.layout_params.specs.declared.cell.Descr.{Descr as Descriptor}
 use Rattle.layout_params.specs.Sizes.{packed_16}
-use Rattle.sil_model.specs.declared.limits.TheConstants.{FIRST_CELL}
+use Rattle.sil_base.specs.declared.places.TheConstants.{FIRST_CELL, FIRST_KIND}
 use Rattle.sil_model.specs.Memory as model
 use Rattle.sil_model.specs.Access.{◌>>=◌, byte_place, cell_number, with_cell, cell_at, set_cell_at, descr_of, descr_at, set_descr_at, a_at, set_a_at}
-use Rattle.image_file.specs.Parts.{kind_of}
-use Rattle.rv_emulate.specs.Memory.{Memory, loaded, kinds_place}
+use Rattle.rv_emit.specs.Parts.{kind_of}
+use Rattle.rv_emulate.specs.Memory.{Memory, loaded}
 use Rattle.rv_emit.specs.Represents.{PackedCells}
 use Rattle.rv_emit.specs.Code.{kind_place}
 use Rattle.rv_emit.proofs.Loads.{load_cells, load_kind}
@@ -22,7 +22,7 @@ use Rattle.rv_emit.proofs.Loads.{load_cells, load_kind}
 abbrev pub cell_address : ℕ → ℕ
 cell_address i = FIRST_CELL + i * 16
 
-pub kind_place_is : (i : ℕ) → kind_place (cell_address i) ≡ kinds_place + i
+pub kind_place_is : (i : ℕ) → kind_place (cell_address i) ≡ FIRST_KIND + i
 kind_place_is i = omega arith
 
 number_is : (m : model.Memory) (i : ℕ) → m.limits.cell_size ≡ 16 → i < length m.cells → cell_number m (pos (cell_address i)) ≡ Some i

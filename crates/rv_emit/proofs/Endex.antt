@@ -5,7 +5,7 @@ use Rattle.std.specs.Prelude.{ℤ, pos, negsuc, ◌==◌, FitsSigned, slice_get}
 use Rattle.layout_params.specs.declared.cell.Cell.{Cell}
 use Rattle.layout_params.specs.declared.cell.Cell.TheVariants.{Descr, Chars}
 use Rattle.layout_params.specs.declared.cell.Descr.{Descr as Descriptor}
-use Rattle.layout_params.specs.Parameters.{Settings}
+use Rattle.layout_params.specs.Parameters.{Settings, Parameters}
 use Rattle.sil_model.specs.declared.end.End.TheVariants as ends
 use Rattle.sil_macros.specs.declared.names.Macro.TheVariants.{Endex}
 use Rattle.sil_model.specs.declared.program.Arg.TheVariants.{Place}
@@ -13,7 +13,9 @@ use Rattle.sil_model.specs.declared.program.Flow.TheVariants.{Exit as ExitFlow}
 use Rattle.sil_model.specs.declared.program.Program.{Program}
 use Rattle.sil_model.specs.declared.program.Statement.{Statement}
 use Rattle.sil_model.specs.Access.{◌>>=◌, a_at}
-use Rattle.sil_model.specs.Clauses.{clause, endex, exit_code}
+use Rattle.sil_model.specs.Clauses.{endex, exit_code}
+use Rattle.sil_model.specs.Effects.{with_memory}
+use Rattle.sil_model.specs.Table.{clause}
 use Rattle.sil_model.specs.States as machine
 use Rattle.sil_model.specs.States.{Ends}
 use Rattle.sil_model.specs.Machine.{make_step, settle}
@@ -36,24 +38,24 @@ exit_same (negsuc n) h = grind arith
 abbrev pub endex_statement : ℕ → ℤ → Statement
 endex_statement card d = record { card = card; name = Endex; args = Place d ∷ [] }
 
-pub exits_as : (card : ℕ) (d a : ℤ) (m : machine.State) → a_at m.memory d ≡ Some a → make_step (endex_statement card d) m ≡ Ends (Some (ends.Exit (exit_code a))) m.tapes
+pub exits_as : (program : Program) (parameters : Parameters) (card : ℕ) (d a : ℤ) (m : machine.State) → a_at m.memory d ≡ Some a → make_step program parameters (endex_statement card d) m ≡ Ends (Some (ends.Exit (exit_code a))) m.tapes
 unfolding make_step clause endex
-exits_as card d a m e = ap (λ o. settle m (o >>= (λ z. Some (ExitFlow (exit_code z), m.memory)))) e
+exits_as program parameters card d a m e = ap (λ o. settle m (with_memory m (o >>= (λ z. Some (ExitFlow (exit_code z), m.memory))))) e
 
-pub undefined_as : (card : ℕ) (d : ℤ) (m : machine.State) → a_at m.memory d ≡ None → make_step (endex_statement card d) m ≡ Ends (Some (ends.Undefined m.statement)) m.tapes
+pub undefined_as : (program : Program) (parameters : Parameters) (card : ℕ) (d : ℤ) (m : machine.State) → a_at m.memory d ≡ None → make_step program parameters (endex_statement card d) m ≡ Ends (Some (ends.Undefined m.statement)) m.tapes
 unfolding make_step clause endex
-undefined_as card d m e = ap (λ o. settle m (o >>= (λ z. Some (ExitFlow (exit_code z), m.memory)))) e
+undefined_as program parameters card d m e = ap (λ o. settle m (with_memory m (o >>= (λ z. Some (ExitFlow (exit_code z), m.memory))))) e
 
-pub cost_least : (st : Statement) (m : machine.State) → 2000 ≤ cost st m
+pub cost_least : (program : Program) (parameters : Parameters) (st : Statement) (m : machine.State) → 2000 ≤ cost program parameters st m
 unfolding cost
-cost_least st m = omega arith
+cost_least program parameters st m = omega arith
 
 pub unsigned_small : (z : ℤ) → FitsSigned w64 z → cast_unsigned w64 z < 2 ^ 64
 unsigned_small z h = grind arith
 
 -- ---- the way
 
-module _ {program : Program} {settings : Settings} {image : Image} {n : ℕ} {m : machine.State} {s : State} (card i : ℕ) (c : Turn program settings image n m s (endex_statement card (pos (cell_address i))) i (exit_list (cell_address i))) where
+module _ {program : Program} {settings : Settings} {image : Image} {n : ℕ} {m : machine.State} {s : State} (parameters : Parameters) (card i : ℕ) (c : Turn program settings image n m s (endex_statement card (pos (cell_address i))) i (exit_list (cell_address i))) where
   abbrev st : Statement
   st = endex_statement card (pos (cell_address i))
 
@@ -61,12 +63,12 @@ module _ {program : Program} {settings : Settings} {image : Image} {n : ℕ} {m 
   k = m.statement
 
   abbrev Made : Type 0
-  Made = Makes image settings (last c) n false (cost st m) s (make_step st m)
+  Made = Makes image settings (last c) n false (cost program parameters st m) s (make_step program parameters st m)
 
   undefined : (chars : List ℕ) → slice_get m.memory.cells i ≡ Some (Chars chars) → Made
   undefined chars e =
-      let soon = comes_within image (last c) false 11 (cost st m) s (Ended (Some (Undefined k)) m.tapes) (omega (arith, cost_least st m)) (undefined_way c chars e) in
-      subst (Makes image settings (last c) n false (cost st m) s) (sym (undefined_as card (pos (cell_address i)) m (a_none m.memory i chars (cell_size c) e))) soon
+      let soon = comes_within image (last c) false 11 (cost program parameters st m) s (Ended (Some (Undefined k)) m.tapes) (omega (arith, cost_least program parameters st m)) (undefined_way c chars e) in
+      subst (Makes image settings (last c) n false (cost program parameters st m) s) (sym (undefined_as program parameters card (pos (cell_address i)) m (a_none m.memory i chars (cell_size c) e))) soon
 
   exited : (d : Descriptor) → slice_get m.memory.cells i ≡ Some (Descr d) → Made
   exited d e =
@@ -78,8 +80,8 @@ module _ {program : Program} {settings : Settings} {image : Image} {n : ℕ} {m 
       let way : Comes image (last c) false 14 s done = from_test c d e 6 done rest in
       let told : Comes image (last c) false 14 s (Ended (Some (Exit code)) m.tapes) = subst (λ v. Comes image (last c) false 14 s (Ended (Some (Exit code)) v)) c.rep.tapes way in
       let same : Comes image (last c) false 14 s (Ended (Some (Exit (exit_code d.a))) m.tapes) = subst (λ v. Comes image (last c) false 14 s (Ended (Some (Exit v)) m.tapes)) (sym (exit_same d.a integer)) told in
-      let soon = comes_within image (last c) false 14 (cost st m) s (Ended (Some (Exit (exit_code d.a))) m.tapes) (omega (arith, cost_least st m)) same in
-      subst (Makes image settings (last c) n false (cost st m) s) (sym (exits_as card (pos (cell_address i)) d.a m (a_is m.memory i d (cell_size c) e))) soon
+      let soon = comes_within image (last c) false 14 (cost program parameters st m) s (Ended (Some (Exit (exit_code d.a))) m.tapes) (omega (arith, cost_least program parameters st m)) same in
+      subst (Makes image settings (last c) n false (cost program parameters st m) s) (sym (exits_as program parameters card (pos (cell_address i)) d.a m (a_is m.memory i d (cell_size c) e))) soon
 
   made_by : (cell : Cell) → slice_get m.memory.cells i ≡ Some cell → Made
   made_by (Descr d) e = exited d e

@@ -5,18 +5,20 @@ use Rattle.std.specs.Prelude.{ℤ, pos, FitsSigned, slice_get}
 use Rattle.layout_params.specs.declared.cell.Cell.{Cell}
 use Rattle.layout_params.specs.declared.cell.Cell.TheVariants.{Descr, Chars}
 use Rattle.layout_params.specs.declared.cell.Descr.{Descr as Descriptor}
-use Rattle.layout_params.specs.Parameters.{Settings}
+use Rattle.layout_params.specs.Parameters.{Settings, Parameters}
 use Rattle.sil_model.specs.declared.end.End.TheVariants as ends
 use Rattle.sil_macros.specs.declared.names.Macro.TheVariants.{Incra}
 use Rattle.sil_model.specs.declared.program.Arg.TheVariants.{Place, Number}
 use Rattle.sil_model.specs.declared.program.Program.{Program}
 use Rattle.sil_model.specs.declared.program.Statement.{Statement}
 use Rattle.sil_model.specs.Access.{◌>>=◌, with_cell, a_at, set_a_at}
-use Rattle.sil_model.specs.Clauses.{clause, incra, onward}
+use Rattle.sil_model.specs.Clauses.{incra}
+use Rattle.sil_model.specs.Effects.{with_memory, onward}
+use Rattle.sil_model.specs.Table.{clause}
 use Rattle.sil_model.specs.Integers.{◌⊞◌}
 use Rattle.sil_model.specs.States as machine
 use Rattle.sil_model.specs.States.{Goes, Ends}
-use Rattle.sil_model.specs.Machine.{make_step, settle, at_next}
+use Rattle.sil_model.specs.Machine.{make_step, settle}
 use Rattle.sil_model.specs.Costs.{cost}
 use Rattle.image_file.specs.Image.{Image}
 use Rattle.rv_emulate.specs.declared.end.CpuEnd.TheVariants.{Undefined}
@@ -32,20 +34,20 @@ use Rattle.rv_emit.proofs.Stores.{store_cells}
 use Rattle.rv_emit.proofs.Adds.{add_list, added, added_kept, adds}
 use Rattle.rv_emit.proofs.Endex.{cost_least, unsigned_small}
 use Rattle.rv_emit.proofs.Tested.{Turn, last, entry, cells_few, there, cell_size, packed, fits, inside_rest, stand_rest, next_place, undefined_way, tested, tested_file, tested_bound, tested_left, from_test}
-use Rattle.rv_emit.proofs.Written.{with_a, rewrites_a, packs_a, represents_after}
+use Rattle.rv_emit.proofs.Written.{gone_on, with_a, rewrites_a, packs_a, represents_after}
 
 abbrev pub incra_statement : ℕ → ℤ → ℤ → Statement
 incra_statement card d n = record { card = card; name = Incra; args = Place d ∷ Number n ∷ [] }
 
-pub undefined_as : (card : ℕ) (d n : ℤ) (m : machine.State) → a_at m.memory d ≡ None → make_step (incra_statement card d n) m ≡ Ends (Some (ends.Undefined m.statement)) m.tapes
+pub undefined_as : (program : Program) (parameters : Parameters) (card : ℕ) (d n : ℤ) (m : machine.State) → a_at m.memory d ≡ None → make_step program parameters (incra_statement card d n) m ≡ Ends (Some (ends.Undefined m.statement)) m.tapes
 unfolding make_step clause incra
-undefined_as card d n m e = ap (λ o. settle m (o >>= (λ a. onward (set_a_at m.memory d (a ⊞ n))))) e
+undefined_as program parameters card d n m e = ap (λ o. settle m (with_memory m (o >>= (λ a. onward (set_a_at m.memory d (a ⊞ n)))))) e
 
-pub goes_as : (card i : ℕ) (n : ℤ) (d : Descriptor) (m : machine.State) → m.memory.limits.cell_size ≡ 16 → slice_get m.memory.cells i ≡ Some (Descr d) → make_step (incra_statement card (pos (cell_address i)) n) m ≡ Goes (at_next m (m.statement + 1) (with_cell m.memory i (Descr (record d { a = d.a ⊞ n }))))
+pub goes_as : (program : Program) (parameters : Parameters) (card i : ℕ) (n : ℤ) (d : Descriptor) (m : machine.State) → m.memory.limits.cell_size ≡ 16 → slice_get m.memory.cells i ≡ Some (Descr d) → make_step program parameters (incra_statement card (pos (cell_address i)) n) m ≡ Goes (gone_on m (m.statement + 1) (with_cell m.memory i (Descr (record d { a = d.a ⊞ n }))))
 unfolding make_step clause incra
-goes_as card i n d m size e =
-    ap (λ o. settle m (o >>= (λ a. onward (set_a_at m.memory (pos (cell_address i)) (a ⊞ n))))) (a_is m.memory i d size e)
-    ∙ ap (λ o. settle m (onward o)) (set_a_is m.memory i d (d.a ⊞ n) size e)
+goes_as program parameters card i n d m size e =
+    ap (λ o. settle m (with_memory m (o >>= (λ a. onward (set_a_at m.memory (pos (cell_address i)) (a ⊞ n)))))) (a_is m.memory i d size e)
+    ∙ ap (λ o. settle m (with_memory m (onward o))) (set_a_is m.memory i d (d.a ⊞ n) size e)
 
 -- the sum of 64 bits is the machine's
 sum_same : (a n : ℤ) → FitsSigned w64 a → FitsSigned w64 n → sum64 (cast_unsigned w64 a) (cast_unsigned w64 n) ≡ cast_unsigned w64 (a ⊞ n)
@@ -54,7 +56,7 @@ sum_same a n h k = grind arith
 sum_small : (x n : ℕ) → sum64 x n < 2 ^ 64
 sum_small x n = omega arith
 
-module _ {program : Program} {settings : Settings} {image : Image} {n : ℕ} {m : machine.State} {s : State} (card i : ℕ) (z : ℤ) (short : FitsSigned w64 z) (c : Turn program settings image n m s (incra_statement card (pos (cell_address i)) z) i (add_list (cell_address i) (cast_unsigned w64 z))) where
+module _ {program : Program} {settings : Settings} {image : Image} {n : ℕ} {m : machine.State} {s : State} (parameters : Parameters) (card i : ℕ) (z : ℤ) (short : FitsSigned w64 z) (c : Turn program settings image n m s (incra_statement card (pos (cell_address i)) z) i (add_list (cell_address i) (cast_unsigned w64 z))) where
   abbrev st : Statement
   st = incra_statement card (pos (cell_address i)) z
 
@@ -68,12 +70,12 @@ module _ {program : Program} {settings : Settings} {image : Image} {n : ℕ} {m 
   k = m.statement
 
   abbrev Made : Type 0
-  Made = Makes image settings (last c) n false (cost st m) s (make_step st m)
+  Made = Makes image settings (last c) n false (cost program parameters st m) s (make_step program parameters st m)
 
   undefined : (chars : List ℕ) → slice_get m.memory.cells i ≡ Some (Chars chars) → Made
   undefined chars e =
-      let soon = comes_within image (last c) false 11 (cost st m) s (Ended (Some (Undefined k)) m.tapes) (omega (arith, cost_least st m)) (undefined_way c chars e) in
-      subst (Makes image settings (last c) n false (cost st m) s) (sym (undefined_as card (pos (cell_address i)) z m (a_none m.memory i chars (cell_size c) e))) soon
+      let soon = comes_within image (last c) false 11 (cost program parameters st m) s (Ended (Some (Undefined k)) m.tapes) (omega (arith, cost_least program parameters st m)) (undefined_way c chars e) in
+      subst (Makes image settings (last c) n false (cost program parameters st m) s) (sym (undefined_as program parameters card (pos (cell_address i)) z m (a_none m.memory i chars (cell_size c) e))) soon
 
   module _ (d : Descriptor) (e : slice_get m.memory.cells i ≡ Some (Descr d)) where
     abbrev value : ℕ
@@ -109,8 +111,8 @@ module _ {program : Program} {settings : Settings} {image : Image} {n : ℕ} {m 
     rest : Comes image (last c) false 13 (at image s (entry c + 56) (tested c d e) s.memory) (On t)
     rest = adds image (last c) s (entry c + 56) (cell_address i) number value (stand_rest c) (inside_rest c) (omega (arith, there c, cells_few c)) number_small (tested c d e) (tested_file c d e) s.memory m' is_value (unsigned_small d.a integer) is_stored
 
-    way : Comes image (last c) false (cost st m) s (On t)
-    way = comes_within image (last c) false 21 (cost st m) s (On t) (omega (arith, cost_least st m)) (from_test c d e 13 (On t) rest)
+    way : Comes image (last c) false (cost program parameters st m) s (On t)
+    way = comes_within image (last c) false 21 (cost program parameters st m) s (On t) (omega (arith, cost_least program parameters st m)) (from_test c d e 13 (On t) rest)
 
     there_now : t.pc ≡ place image (last c) (k + 1)
     there_now = let z : suc k ≡ k + 1 = omega arith in sym (next_place c) ∙ ap (λ j. place image (last c) j) z
@@ -118,11 +120,11 @@ module _ {program : Program} {settings : Settings} {image : Image} {n : ℕ} {m 
     abbrev new : Descriptor
     new = record d { a = d.a ⊞ z }
 
-    stands : Represents settings n (at_next m (k + 1) (with_cell m.memory i (Descr new))) t
+    stands : Represents settings n (gone_on m (k + 1) (with_cell m.memory i (Descr new))) t
     stands = represents_after image i (k + 1) t.pc (Descr new) ys m' c.can.standard c.rep kept.file (kept.bound ∙ tested_bound c d e) (omega (arith, kept.left, tested_left c d e)) (there c) (rewrites_a s.memory i total room) (packs_a s.memory i total room d (d.a ⊞ z) (sum_same d.a z integer short) (sum_small value number) ((packed c).packed i (Descr d) e)) ((packed c).kinds i (Descr d) e)
 
     went : Made
-    went = subst (Makes image settings (last c) n false (cost st m) s) (sym (goes_as card i z d m (cell_size c) e)) (t, way, there_now, stands)
+    went = subst (Makes image settings (last c) n false (cost program parameters st m) s) (sym (goes_as program parameters card i z d m (cell_size c) e)) (t, way, there_now, stands)
 
   made_by : (cell : Cell) → slice_get m.memory.cells i ≡ Some cell → Made
   made_by (Descr d) e = went d e

@@ -15,6 +15,7 @@ mod Written
 mod Incra
 mod Movd
 mod Endex
+pub mod HasCode
 mod Past
 mod Stores
 mod Start

@@ -3,13 +3,14 @@ use Rattle.std.proofs.Common.{◌≡◌, ℕ, zero, suc, ◌+◌, ◌-◌, ◌%�
 use Rattle.std.proofs.lemmas.Option.{slice_get_within}
 use Rattle.std.specs.Prelude.{slice_get, ◌==◌}
 use Rattle.sil_base.specs.Bytes.{number, piece}
-use Rattle.rv_emulate.specs.Memory.{Memory, loaded, load_from, cells_place, kinds_place}
+use Rattle.sil_base.specs.declared.places.TheConstants.{FIRST_CELL, FIRST_KIND}
+use Rattle.rv_emulate.specs.Memory.{Memory, loaded, load_from}
 
 -- a doubleword of the cells
-pub load_cells : (constants : List ℕ) (m : Memory) (i : ℕ) → (cells_place + i) % 8 ≡ 0 → i + 8 ≤ length m.cells → loaded constants m 8 (cells_place + i) ≡ Some (number (piece i 8 m.cells))
+pub load_cells : (constants : List ℕ) (m : Memory) (i : ℕ) → (FIRST_CELL + i) % 8 ≡ 0 → i + 8 ≤ length m.cells → loaded constants m 8 (FIRST_CELL + i) ≡ Some (number (piece i 8 m.cells))
 unfolding loaded
 load_cells constants m i e h =
-    let at : cells_place + i - cells_place ≡ i = omega arith in
+    let at : FIRST_CELL + i - FIRST_CELL ≡ i = omega arith in
     rw at (grind arith)
 
 piece_one : (xs : List ℕ) (i k : ℕ) → slice_get xs i ≡ Some k → piece i 1 xs ≡ k ∷ []
@@ -26,12 +27,12 @@ in_region first bytes n i h =
     rw at (grind arith)
 
 -- the kind byte of a cell
-pub load_kind : (constants : List ℕ) (m : Memory) (i k : ℕ) → length m.cells ≤ 2 ^ 27 → slice_get m.kinds i ≡ Some k → loaded constants m 1 (kinds_place + i) ≡ Some k
+pub load_kind : (constants : List ℕ) (m : Memory) (i k : ℕ) → length m.cells ≤ 2 ^ 27 → slice_get m.kinds i ≡ Some k → loaded constants m 1 (FIRST_KIND + i) ≡ Some k
 unfolding loaded
 load_kind constants m i k room e =
     let within : i < length m.kinds = slice_get_within m.kinds i k e in
     let value : number (piece i 1 m.kinds) ≡ k = ap number (piece_one m.kinds i k e) ∙ omega arith in
-    let a = past_region cells_place m.cells 1 (kinds_place + i) (omega arith) in
-    let b = in_region kinds_place m.kinds 1 i (omega arith) in
-    let aligned : ((kinds_place + i) % 1 == 0) ≡ true = grind arith in
+    let a = past_region FIRST_CELL m.cells 1 (FIRST_KIND + i) (omega arith) in
+    let b = in_region FIRST_KIND m.kinds 1 i (omega arith) in
+    let aligned : ((FIRST_KIND + i) % 1 == 0) ≡ true = grind arith in
     rw (aligned, a, b) (ap Some value)

@@ -7,19 +7,21 @@ use Rattle.layout_params.specs.declared.cell.Cell.{Cell}
 use Rattle.layout_params.specs.declared.cell.Cell.TheVariants.{Descr, Chars}
 use Rattle.layout_params.specs.declared.cell.Descr.{Descr as Descriptor}
 use Rattle.layout_params.specs.Packing.{PacksDescr}
-use Rattle.layout_params.specs.Parameters.{Settings}
+use Rattle.layout_params.specs.Parameters.{Settings, Parameters}
 use Rattle.layout_params.specs.Sizes.{packed_16}
 use Rattle.sil_model.specs.declared.end.End.TheVariants as ends
-use Rattle.sil_model.specs.declared.limits.TheConstants.{FIRST_CELL}
+use Rattle.sil_base.specs.declared.places.TheConstants.{FIRST_CELL}
 use Rattle.sil_macros.specs.declared.names.Macro.TheVariants.{Movd}
 use Rattle.sil_model.specs.declared.program.Arg.TheVariants.{Place}
 use Rattle.sil_model.specs.declared.program.Program.{Program}
 use Rattle.sil_model.specs.declared.program.Statement.{Statement}
 use Rattle.sil_model.specs.Access.{◌>>=◌, with_cell, descr_at, set_descr_at}
-use Rattle.sil_model.specs.Clauses.{clause, movd, onward}
+use Rattle.sil_model.specs.Clauses.{movd}
+use Rattle.sil_model.specs.Effects.{with_memory, onward}
+use Rattle.sil_model.specs.Table.{clause}
 use Rattle.sil_model.specs.States as machine
 use Rattle.sil_model.specs.States.{Goes, Ends}
-use Rattle.sil_model.specs.Machine.{make_step, settle, at_next}
+use Rattle.sil_model.specs.Machine.{make_step, settle}
 use Rattle.sil_model.specs.Costs.{cost}
 use Rattle.image_file.specs.Image.{Image}
 use Rattle.rv_emulate.specs.declared.end.CpuEnd.TheVariants.{Undefined}
@@ -35,22 +37,22 @@ use Rattle.rv_emit.proofs.Stores.{store_cells, store_kind}
 use Rattle.rv_emit.proofs.Copies.{copy_list, Stored, copied, copied_kept, copies}
 use Rattle.rv_emit.proofs.Endex.{cost_least}
 use Rattle.rv_emit.proofs.Tested.{Turn, last, entry, cells_few, there, among, cell_size, packed, inside_rest, stand_rest, next_place, undefined_way, tested, tested_file, tested_bound, tested_left, from_test}
-use Rattle.rv_emit.proofs.Written.{low, high, with_low, with_both, with_copy, long_low, long_both, copied_cell, copied_kind, rewrites_copy, represents_after}
+use Rattle.rv_emit.proofs.Written.{gone_on, low, high, with_low, with_both, with_copy, long_low, long_both, copied_cell, copied_kind, rewrites_copy, represents_after}
 
 abbrev pub movd_statement : ℕ → ℤ → ℤ → Statement
 movd_statement card to from = record { card = card; name = Movd; args = Place to ∷ Place from ∷ [] }
 
-pub undefined_as : (card : ℕ) (to from : ℤ) (m : machine.State) → descr_at m.memory from ≡ None → make_step (movd_statement card to from) m ≡ Ends (Some (ends.Undefined m.statement)) m.tapes
+pub undefined_as : (program : Program) (parameters : Parameters) (card : ℕ) (to from : ℤ) (m : machine.State) → descr_at m.memory from ≡ None → make_step program parameters (movd_statement card to from) m ≡ Ends (Some (ends.Undefined m.statement)) m.tapes
 unfolding make_step clause movd
-undefined_as card to from m e = ap (λ o. settle m (o >>= (λ d. onward (set_descr_at m.memory to d)))) e
+undefined_as program parameters card to from m e = ap (λ o. settle m (with_memory m (o >>= (λ d. onward (set_descr_at m.memory to d))))) e
 
-pub goes_as : (card i j : ℕ) (d : Descriptor) (m : machine.State) → m.memory.limits.cell_size ≡ 16 → i < length m.memory.cells → slice_get m.memory.cells j ≡ Some (Descr d) → make_step (movd_statement card (pos (cell_address i)) (pos (cell_address j))) m ≡ Goes (at_next m (m.statement + 1) (with_cell m.memory i (Descr d)))
+pub goes_as : (program : Program) (parameters : Parameters) (card i j : ℕ) (d : Descriptor) (m : machine.State) → m.memory.limits.cell_size ≡ 16 → i < length m.memory.cells → slice_get m.memory.cells j ≡ Some (Descr d) → make_step program parameters (movd_statement card (pos (cell_address i)) (pos (cell_address j))) m ≡ Goes (gone_on m (m.statement + 1) (with_cell m.memory i (Descr d)))
 unfolding make_step clause movd
-goes_as card i j d m size lt e =
-    ap (λ o. settle m (o >>= (λ x. onward (set_descr_at m.memory (pos (cell_address i)) x)))) (descr_is m.memory j d size e)
-    ∙ ap (λ o. settle m (onward o)) (set_descr_is m.memory i d size lt)
+goes_as program parameters card i j d m size lt e =
+    ap (λ o. settle m (with_memory m (o >>= (λ x. onward (set_descr_at m.memory (pos (cell_address i)) x))))) (descr_is m.memory j d size e)
+    ∙ ap (λ o. settle m (with_memory m (onward o))) (set_descr_is m.memory i d size lt)
 
-module _ {program : Program} {settings : Settings} {image : Image} {n : ℕ} {m : machine.State} {s : State} (card i j : ℕ) (static : i < length program.cells) (c : Turn program settings image n m s (movd_statement card (pos (cell_address i)) (pos (cell_address j))) j (copy_list (cell_address i) (cell_address j) (kind_place (cell_address i)))) where
+module _ {program : Program} {settings : Settings} {image : Image} {n : ℕ} {m : machine.State} {s : State} (parameters : Parameters) (card i j : ℕ) (static : i < length program.cells) (c : Turn program settings image n m s (movd_statement card (pos (cell_address i)) (pos (cell_address j))) j (copy_list (cell_address i) (cell_address j) (kind_place (cell_address i)))) where
   abbrev st : Statement
   st = movd_statement card (pos (cell_address i)) (pos (cell_address j))
 
@@ -58,12 +60,12 @@ module _ {program : Program} {settings : Settings} {image : Image} {n : ℕ} {m 
   k = m.statement
 
   abbrev Made : Type 0
-  Made = Makes image settings (last c) n false (cost st m) s (make_step st m)
+  Made = Makes image settings (last c) n false (cost program parameters st m) s (make_step program parameters st m)
 
   undefined : (chars : List ℕ) → slice_get m.memory.cells j ≡ Some (Chars chars) → Made
   undefined chars e =
-      let soon = comes_within image (last c) false 11 (cost st m) s (Ended (Some (Undefined k)) m.tapes) (omega (arith, cost_least st m)) (undefined_way c chars e) in
-      subst (Makes image settings (last c) n false (cost st m) s) (sym (undefined_as card (pos (cell_address i)) (pos (cell_address j)) m (descr_none m.memory j chars (cell_size c) e))) soon
+      let soon = comes_within image (last c) false 11 (cost program parameters st m) s (Ended (Some (Undefined k)) m.tapes) (omega (arith, cost_least program parameters st m)) (undefined_way c chars e) in
+      subst (Makes image settings (last c) n false (cost program parameters st m) s) (sym (undefined_as program parameters card (pos (cell_address i)) (pos (cell_address j)) m (descr_none m.memory j chars (cell_size c) e))) soon
 
   within_i : i < length m.memory.cells
   within_i = among c i static
@@ -143,8 +145,8 @@ module _ {program : Program} {settings : Settings} {image : Image} {n : ℕ} {m 
     rest : Comes image (last c) false 11 (at image s (entry c + 56) (tested c d e) s.memory) (On t)
     rest = copies image (last c) s (entry c + 56) (cell_address i) (cell_address j) (kind_place (cell_address i)) low_now high_now (stand_rest c) (inside_rest c) small_i small_j small_kind (tested c d e) (tested_file c d e) s.memory m1 m2 m3 (word_small (j * 16) (omega (arith, room_j))) (word_small (j * 16 + 8) (omega (arith, room_j))) is
 
-    way : Comes image (last c) false (cost st m) s (On t)
-    way = comes_within image (last c) false 19 (cost st m) s (On t) (omega (arith, cost_least st m)) (from_test c d e 11 (On t) rest)
+    way : Comes image (last c) false (cost program parameters st m) s (On t)
+    way = comes_within image (last c) false 19 (cost program parameters st m) s (On t) (omega (arith, cost_least program parameters st m)) (from_test c d e 11 (On t) rest)
 
     there_now : t.pc ≡ place image (last c) (k + 1)
     there_now = let z : suc k ≡ k + 1 = omega arith in sym (next_place c) ∙ ap (λ q. place image (last c) q) z
@@ -152,11 +154,11 @@ module _ {program : Program} {settings : Settings} {image : Image} {n : ℕ} {m 
     packs : PacksDescr packed_16 d (piece (i * 16) 16 m3.cells)
     packs = subst (PacksDescr packed_16 d) (sym (copied_cell s.memory i j room_i room_j room_kinds bytes)) ((packed c).packed j (Descr d) e)
 
-    stands : Represents settings n (at_next m (k + 1) (with_cell m.memory i (Descr d))) t
+    stands : Represents settings n (gone_on m (k + 1) (with_cell m.memory i (Descr d))) t
     stands = represents_after image i (k + 1) t.pc (Descr d) ys m3 c.can.standard c.rep kept.file (kept.bound ∙ tested_bound c d e) (omega (arith, kept.left, tested_left c d e)) within_i (rewrites_copy s.memory i j room_i room_j room_kinds bytes) packs (copied_kind s.memory i j room_i room_j room_kinds bytes)
 
     went : Made
-    went = subst (Makes image settings (last c) n false (cost st m) s) (sym (goes_as card i j d m (cell_size c) within_i e)) (t, way, there_now, stands)
+    went = subst (Makes image settings (last c) n false (cost program parameters st m) s) (sym (goes_as program parameters card i j d m (cell_size c) within_i e)) (t, way, there_now, stands)
 
   made_by : (cell : Cell) → slice_get m.memory.cells j ≡ Some cell → Made
   made_by (Descr d) e = went d e

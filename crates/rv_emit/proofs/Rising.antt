@@ -5,7 +5,8 @@ use Rattle.std.specs.Prelude.{IsTrue, All, nat_le, nat_lt, ◌==◌, ◌&&◌}
 use Rattle.rv_isa.specs.declared.instr.Instr.{Instr}
 use Rattle.rv_isa.specs.Words.{word_of}
 use Rattle.sil_model.specs.declared.program.Statement.{Statement}
-use Rattle.image_file.specs.Image.{StatementEntry, first_place, places_rise}
+use Rattle.sil_base.specs.declared.places.TheConstants.{FIRST_WORD}
+use Rattle.image_file.specs.Image.{StatementEntry, places_rise}
 use Rattle.rv_emit.specs.Code.{codes_from, joined_codes, places_from, place_after, start_code, past_code, first_entry, whole_code, words_of, places_of}
 use Rattle.rv_emit.specs.Emits.{FitsImage}
 use Rattle.rv_emit.proofs.Places.{AreFull, place_at-least, place_at-below}
@@ -51,7 +52,7 @@ fits_image top statements few wide = record {
   wide = wide;
   some = omega (arith, words_long top statements);
   few = omega (arith, words_long top statements, length-joined 0 statements, few);
-  rise = λ entries is. (let start : length (start_code top) ≡ 6 = ap length (start_is top) in let after = after_joined (first_entry top) (codes_from 0 statements) in rise first_place (first_entry top) (first_place + 4 * length (words_of top statements)) entries (codes_from 0 statements) (full 0 statements) is (omega arith) (omega arith) (omega (arith, words_long top statements)));
+  rise = λ entries is. (let start : length (start_code top) ≡ 6 = ap length (start_is top) in let after = after_joined (first_entry top) (codes_from 0 statements) in rise FIRST_WORD (first_entry top) (FIRST_WORD + 4 * length (words_of top statements)) entries (codes_from 0 statements) (full 0 statements) is (omega arith) (omega arith) (omega (arith, words_long top statements)));
 }
 
 -- a part of the words is short

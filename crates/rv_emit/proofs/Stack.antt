@@ -5,7 +5,7 @@ use Rattle.sil_base.proofs.Numbers.{AreBytes-with_piece, low_bytes_below}
 use Rattle.layout_params.specs.Sizes.{packed_16}
 use Rattle.layout_params.specs.Parameters.{Settings}
 use Rattle.layout_params.proofs.PackingLemmas.{number_here, number_there, length-with_low}
-use Rattle.sil_model.specs.Start.{all_cells, empty_stack}
+use Rattle.layout_params.specs.Areas.{all_cells, empty_stack}
 use Rattle.rv_emit.specs.Code.{natural_of}
 use Rattle.rv_emit.proofs.Start.{with_stack}
 

@@ -11,8 +11,9 @@ use Rattle.sil_model.specs.declared.program.Arg.{Arg}
 use Rattle.sil_model.specs.declared.program.Arg.TheVariants.{Place, Number}
 use Rattle.sil_model.specs.declared.program.Program.{Program}
 use Rattle.sil_model.specs.declared.program.Statement.{Statement}
-use Rattle.image_file.specs.Image.{Image, first_place}
-use Rattle.image_file.specs.Parts.{IsImageOf}
+use Rattle.sil_base.specs.declared.places.TheConstants.{FIRST_WORD}
+use Rattle.image_file.specs.Image.{Image}
+use Rattle.rv_emit.specs.Parts.{IsImageOf}
 use Rattle.rv_emulate.specs.Runs.{entry_at}
 use Rattle.rv_emit.specs.Ways.{place}
 use Rattle.rv_emit.specs.Code.{begin_code, exit_part, add_part, copy_part, check_code, start_code, past_code, body_of, code_of, codes_from, joined_codes, places_from, first_entry, stack_top, emitted_words, emitted_places, last_place}
@@ -101,7 +102,7 @@ module _ (program : Program) (settings : Settings) (few : length program.stateme
   pub statement_count : length image.statements ≡ length program.statements
   statement_count = sym (length-map image.statements (λ e. e.card)) ∙ ap length of.cards ∙ length-map program.statements (λ s. s.card)
 
-  first_is : first ≡ first_place + 24
+  first_is : first ≡ FIRST_WORD + 24
   unfolding start_code
   first_is = refl
 
@@ -130,13 +131,13 @@ module _ (program : Program) (settings : Settings) (few : length program.stateme
       let b = place_at-below first codes 0 in
       omega arith
 
-  pub first_apart : (entry_at image.statements first_place ≡ None) × (first_place ≢ last)
+  pub first_apart : (entry_at image.statements FIRST_WORD ≡ None) × (FIRST_WORD ≢ last)
   unfolding entry_at
-  first_apart = (entry_before 0 first first_place image.statements codes places_are (omega (arith, first_is)), omega (arith, first_is, least))
+  first_apart = (entry_before 0 first FIRST_WORD image.statements codes places_are (omega (arith, first_is)), omega (arith, first_is, least))
 
   -- ---- insides
 
-  pub inside_start : Inside image last first_place 24
+  pub inside_start : Inside image last FIRST_WORD 24
   unfolding entry_at
   inside_start t low high =
       (entry_before 0 first t.pc image.statements codes places_are (omega (arith, first_is)), omega (arith, first_is, least))
@@ -170,11 +171,11 @@ module _ (program : Program) (settings : Settings) (few : length program.stateme
   all_words : drop 0 image.words ≡ map word_of (start_code (stack_top program settings) ++ (joined_codes codes ++ past_code (length program.statements)))
   all_words = words_are ∙ ap (λ is. map word_of is) (append_assoc (start_code (stack_top program settings)) (joined_codes codes) (past_code (length program.statements)))
 
-  pub stand_start : (top : ℕ) → start_code top ≡ start_code (stack_top program settings) → StandAt image.words first_place (start_list top)
+  pub stand_start : (top : ℕ) → start_code top ≡ start_code (stack_top program settings) → StandAt image.words FIRST_WORD (start_list top)
   stand_start top e =
-      let z : first_place + 4 * 0 ≡ first_place = refl in
+      let z : FIRST_WORD + 4 * 0 ≡ FIRST_WORD = refl in
       let h = stand_from image.words 0 (start_code (stack_top program settings)) (joined_codes codes ++ past_code (length program.statements)) all_words in
-      subst (StandAt image.words first_place) (sym e ∙ start_is top) h
+      subst (StandAt image.words FIRST_WORD) (sym e ∙ start_is top) h
 
   later_words : drop (length (start_code (stack_top program settings))) image.words ≡ map word_of (joined_codes codes ++ past_code (length program.statements))
   later_words =
@@ -197,7 +198,7 @@ module _ (program : Program) (settings : Settings) (few : length program.stateme
   pub nearer : (k : ℕ) → entry k < 2 ^ 39
   nearer k = let h = place_near 0 first program.statements k in omega (arith, first_is, few)
 
-  pub first_entry_is : entry 0 ≡ first_place + 24
+  pub first_entry_is : entry 0 ≡ FIRST_WORD + 24
   first_entry_is = first_of codes ∙ first_is
     where
       first_of : (cs : List (List Instr)) → place_at first cs 0 ≡ first

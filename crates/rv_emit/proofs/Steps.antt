@@ -1,7 +1,7 @@
 -- Single steps, and ways that are made of them.
 use Rattle.std.proofs.Common.{◌≡◌, ℕ, zero, suc, ◌+◌, ◌-◌, ◌*◌, ◌%◌, ◌^◌, ◌<◌, ◌≤◌, List, length, Option, Some, Bool, true, false, cond, refl, sym, ap, subst, ◌∙◌, arith}
 use Rattle.std.specs.Prelude.{ℤ, pos, ◌==◌, ◌||◌}
-use Rattle.sil_base.specs.Tapes.{Tapes}
+use Rattle.unit_io.specs.Tapes.{Tapes}
 use Rattle.rv_isa.specs.declared.instr.ROp.TheVariants.{Add, Sltu}
 use Rattle.rv_isa.specs.declared.instr.IOp.TheVariants.{Addi, Slli, Ld, Lbu}
 use Rattle.rv_isa.specs.declared.instr.SOp.TheVariants.{Sb, Sd}

@@ -14,7 +14,7 @@ use Rattle.sil_model.specs.Memory.{FitsCell}
 use Rattle.sil_model.specs.States as machine
 use Rattle.sil_model.specs.Valid.{IsValid}
 use Rattle.image_file.specs.Image.{Image}
-use Rattle.image_file.specs.Parts.{IsImageOf}
+use Rattle.rv_emit.specs.Parts.{IsImageOf}
 use Rattle.rv_emulate.specs.declared.end.CpuEnd.TheVariants.{Undefined}
 use Rattle.rv_emulate.specs.States.{State, Outcome, Ended}
 use Rattle.rv_emit.specs.Represents.{Represents, PackedCells}

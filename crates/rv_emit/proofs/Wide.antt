@@ -7,14 +7,14 @@ use Rattle.std.specs.Prelude.{ℤ, pos}
 use Rattle.rv_isa.specs.declared.instr.Instr.{Instr}
 use Rattle.rv_isa.specs.Words.{IsInstr, word_of}
 use Rattle.rv_isa.proofs.Back.{are_parts}
-use Rattle.sil_model.specs.declared.limits.TheConstants.{FIRST_CELL}
+use Rattle.sil_base.specs.declared.places.TheConstants.{FIRST_CELL}
 use Rattle.sil_macros.specs.declared.names.Macro.{Macro}
 use Rattle.sil_macros.specs.declared.names.Macro.TheVariants.{Endex, Incra, Movd}
 use Rattle.sil_model.specs.declared.program.Arg.{Arg}
 use Rattle.sil_model.specs.declared.program.Arg.TheVariants.{Place, Number}
 use Rattle.sil_model.specs.declared.program.Statement.{Statement}
 use Rattle.rv_emit.specs.Code.{begin_code, check_code, exit_part, add_part, copy_part, body_of, code_of, codes_from, joined_codes, past_code, start_code, whole_code, words_of}
-use Rattle.rv_emit.specs.Emits.{IsStatic, HasCode}
+use Rattle.rv_emit.proofs.HasCode.{IsStatic, HasCode}
 use Rattle.rv_emit.proofs.Begin.{begin_is}
 use Rattle.rv_emit.proofs.Check.{check_is}
 use Rattle.rv_emit.proofs.Exits.{exit_is}

@@ -15,7 +15,8 @@ use Rattle.sil_model.specs.Access.{with_cell}
 use Rattle.sil_model.specs.Machine.{at_next}
 use Rattle.sil_model.specs.States as machine
 use Rattle.image_file.specs.Image.{Image}
-use Rattle.image_file.specs.Parts.{kind_of}
+use Rattle.rv_emit.specs.Parts.{kind_of}
+use Rattle.sil_model.specs.Memory as machine_memory
 use Rattle.rv_emulate.specs.Memory.{Memory}
 use Rattle.rv_emulate.specs.States.{State}
 use Rattle.rv_emit.specs.Represents.{Represents, PackedCells}
@@ -118,8 +119,12 @@ packed_after i cells cell m m' p lt r is kind =
     kind_at j c e (inl same) = subst (λ x. slice_get m'.kinds j ≡ Some (kind_of x)) (now j c e same) (subst (λ k. slice_get m'.kinds k ≡ Some (kind_of cell)) (sym same) kind)
     kind_at j c e (inr ne) = r.other_kinds j ne ∙ p.kinds j c (sym (set_there cells i j cell ne) ∙ e)
 
+-- goes on at statement k with this memory, and is counted
+abbrev pub gone_on : machine.State → ℕ → machine_memory.Memory → machine.State
+gone_on m k memory = at_next m k (record m { memory = memory })
+
 -- a state that goes on at statement k with another cell i
-pub represents_after : {settings : Settings} {n : ℕ} {m : machine.State} {s : State} (image : Image) (i k pc : ℕ) (cell : Cell) (ys : List ℕ) (m' : Memory) → settings.sizes ≡ packed_16 → Represents settings n m s → IsFile ys → get_or ys 25 0 ≡ n → get_or ys 27 0 + (m.steps + 1) ≡ n → i < length m.memory.cells → Rewrites i s.memory m' → IsPacked packed_16 cell (piece (i * 16) 16 m'.cells) → slice_get m'.kinds i ≡ Some (kind_of cell) → Represents settings n (at_next m k (with_cell m.memory i cell)) (at image s pc ys m')
+pub represents_after : {settings : Settings} {n : ℕ} {m : machine.State} {s : State} (image : Image) (i k pc : ℕ) (cell : Cell) (ys : List ℕ) (m' : Memory) → settings.sizes ≡ packed_16 → Represents settings n m s → IsFile ys → get_or ys 25 0 ≡ n → get_or ys 27 0 + (m.steps + 1) ≡ n → i < length m.memory.cells → Rewrites i s.memory m' → IsPacked packed_16 cell (piece (i * 16) 16 m'.cells) → slice_get m'.kinds i ≡ Some (kind_of cell) → Represents settings n (gone_on m k (with_cell m.memory i cell)) (at image s pc ys m')
 represents_after {settings} {n} {m} {s} image i k pc cell ys m' standard rep file bound left lt r is kind =
     let before : PackedCells packed_16 m.memory.cells s.memory = subst (λ z. PackedCells z m.memory.cells s.memory) standard rep.cells in
     record {

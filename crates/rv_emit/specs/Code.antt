@@ -12,16 +12,14 @@ use Rattle.rv_isa.specs.declared.instr.Instr.TheVariants.{R, I, S, B, U, Ecall}
 use Rattle.rv_isa.specs.Words.{word_of}
 use Rattle.rv_isa.specs.Decoded.{signed}
 use Rattle.layout_params.specs.Parameters.{Settings}
-use Rattle.sil_model.specs.declared.limits.TheConstants.{FIRST_CELL}
+use Rattle.sil_base.specs.declared.places.TheConstants.{FIRST_CELL, FIRST_WORD, FIRST_KIND, FIRST_SCRATCH}
 use Rattle.sil_macros.specs.declared.names.Macro.{Macro}
 use Rattle.sil_macros.specs.declared.names.Macro.TheVariants.{Endex, Incra, Movd}
 use Rattle.sil_model.specs.declared.program.Arg.{Arg}
 use Rattle.sil_model.specs.declared.program.Arg.TheVariants.{Place, Number}
 use Rattle.sil_model.specs.declared.program.Program.{Program}
 use Rattle.sil_model.specs.declared.program.Statement.{Statement}
-use Rattle.sil_model.specs.Start.{empty_stack}
-use Rattle.image_file.specs.Image.{first_place}
-use Rattle.rv_emulate.specs.Memory.{kinds_place, scratch_place}
+use Rattle.layout_params.specs.Areas.{empty_stack}
 
 -- the lower 12 bits of a number with their sign, and the upper ones, one more where the lower part is negative; of a number below 2^31 - 2^11 LUI and ADDI make it
 abbrev pub upper_of : ℕ → ℕ
@@ -53,7 +51,7 @@ begin_code k = constant 26 k ++ B Bne 27 0 (pos 16) ∷ end_call 4 ++ I Addi 27 
 
 -- the place of the kind byte of the cell at an address
 abbrev pub kind_place : ℕ → ℕ
-kind_place at = kinds_place + (at - FIRST_CELL) / 16
+kind_place at = FIRST_KIND + (at - FIRST_CELL) / 16
 
 -- where the cell at an address is no descriptor the run ends as undefined
 unfoldable pub check_code : ℕ → List Instr
@@ -93,7 +91,7 @@ past_code count = constant 26 count ++ end_call 3
 
 -- the start: current and previous are stored
 unfoldable pub start_code : ℕ → List Instr
-start_code top = constant 5 scratch_place ++ constant 6 top ++ S Sd 5 6 (pos 0) ∷ S Sd 5 6 (pos 8) ∷ []
+start_code top = constant 5 FIRST_SCRATCH ++ constant 6 top ++ S Sd 5 6 (pos 0) ∷ S Sd 5 6 (pos 8) ∷ []
 
 -- the codes of statements, counted from k on
 abbrev pub codes_from : ℕ → List Statement → List (List Instr)
@@ -123,7 +121,7 @@ whole_code top statements =
 
 -- the place of statement 0
 abbrev pub first_entry : ℕ → ℕ
-first_entry top = first_place + 4 * length (start_code top)
+first_entry top = FIRST_WORD + 4 * length (start_code top)
 
 abbrev pub words_of : ℕ → List Statement → List ℕ
 words_of top statements = map word_of (whole_code top statements)

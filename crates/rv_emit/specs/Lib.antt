@@ -1,3 +1,4 @@
+pub mod Parts
 pub mod Represents
 pub mod Ways
 pub mod Code

@@ -8,8 +8,9 @@ use Rattle.layout_params.specs.Sizes.{Sizes}
 use Rattle.layout_params.specs.Packing.{IsPacked}
 use Rattle.layout_params.specs.Parameters.{Settings}
 use Rattle.sil_model.specs.States as machine
-use Rattle.image_file.specs.Parts.{kind_of, table_part}
-use Rattle.rv_emulate.specs.Memory.{Memory, scratch_size}
+use Rattle.rv_emit.specs.Parts.{kind_of, table_part}
+use Rattle.sil_base.specs.declared.limits.TheConstants.{SCRATCH_BYTES}
+use Rattle.rv_emulate.specs.Memory.{Memory}
 use Rattle.rv_emulate.specs.States.{State, register, steps_left}
 
 -- each cell's bytes are packed from the cell, and its kind byte tells what it is
@@ -28,7 +29,7 @@ pub record HoldsBytes (m : Memory) : Type 0 where
 
 -- the words that keep current and previous are the first two of the scratch region
 pub record KeepsStack (m : machine.State) (memory : Memory) : Type 0 where
-  pub size : length memory.scratch ≡ scratch_size
+  pub size : length memory.scratch ≡ SCRATCH_BYTES
   pub current : number (piece 0 8 memory.scratch) ≡ cast_unsigned w64 m.current
   pub previous : number (piece 8 8 memory.scratch) ≡ cast_unsigned w64 m.previous
 

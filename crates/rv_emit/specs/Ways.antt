@@ -1,7 +1,7 @@
 -- The ways of the installed code, from statement to statement.
 use Rattle.std.specs.Prelude.{◌≡◌, ◌≢◌, ℕ, suc, ◌^◌, ◌<◌, ◌≤◌, length, map, Option, Some, None, option_map, Bool, true, false, slice_get, slice_index_or}
-use Rattle.sil_base.specs.Tapes.{Tapes}
-use Rattle.layout_params.specs.Parameters.{Settings}
+use Rattle.unit_io.specs.Tapes.{Tapes}
+use Rattle.layout_params.specs.Parameters.{Settings, Parameters}
 use Rattle.sil_model.specs.declared.end.End.{End}
 use Rattle.sil_model.specs.declared.end.End.TheVariants as ends
 use Rattle.sil_model.specs.declared.program.Program.{Program}
@@ -13,7 +13,8 @@ use Rattle.sil_model.specs.Machine.{make_step}
 use Rattle.sil_model.specs.Costs.{cost}
 use Rattle.sil_model.specs.Valid.{IsValid}
 use Rattle.sil_model.specs.Prints.{writes_records}
-use Rattle.image_file.specs.Image.{Image, first_place}
+use Rattle.sil_base.specs.declared.places.TheConstants.{FIRST_WORD}
+use Rattle.image_file.specs.Image.{Image}
 use Rattle.rv_emulate.specs.declared.end.CpuEnd.{CpuEnd}
 use Rattle.rv_emulate.specs.declared.end.CpuEnd.TheVariants.{Exit, Trap, Undefined, UnitFault, Budget, Memory}
 use Rattle.rv_emulate.specs.States.{State, Outcome, On, Ended, start}
@@ -66,12 +67,12 @@ Makes image settings last n prints most s (Goes m) = ComesTo image settings last
 Makes image settings last n prints most s (Ends e tapes) = EndsAs image last prints most s e tapes
 
 -- the code carries out each statement, from each state that stands for a valid one
-pub record CarriesOut (image : Image) (program : Program) (settings : Settings) (last : ℕ) : Type 0 where
+pub record CarriesOut (image : Image) (program : Program) (parameters : Parameters) (last : ℕ) : Type 0 where
   pub entries : (k : ℕ) → k < length program.statements → entry_at image.statements (place image last k) ≡ Some k
   pub beyond : (k : ℕ) → length program.statements ≤ k → place image last k ≡ last
   pub last_apart : entry_at image.statements last ≡ None
-  pub first_apart : (entry_at image.statements first_place ≡ None) × (first_place ≢ last)
-  pub begins : (tapes : Tapes) (n : ℕ) → n ≤ 2 ^ 40 → ComesTo image settings last n false 2000 (start image tapes n) (first_state program settings tapes)
-  pub statement : (n : ℕ) (m : machine.State) (s : State) (st : Statement) → n ≤ 2 ^ 40 → slice_get program.statements m.statement ≡ Some st → IsValid program settings m → m.steps < n → s.pc ≡ place image last m.statement → Represents settings n m s → Makes image settings last n (writes_records st.name) (cost st m) s (make_step st m)
-  pub bound : (n : ℕ) (m : machine.State) (s : State) → n ≤ 2 ^ 40 → m.statement < length program.statements → IsValid program settings m → m.steps ≡ n → s.pc ≡ place image last m.statement → Represents settings n m s → EndsAs image last false 2000 s (Some ends.Budget) m.tapes
-  pub past : (n : ℕ) (m : machine.State) (s : State) → n ≤ 2 ^ 40 → m.statement ≡ length program.statements → IsValid program settings m → s.pc ≡ last → Represents settings n m s → EndsAs image last false 2000 s (Some (ends.Undefined m.statement)) m.tapes
+  pub first_apart : (entry_at image.statements FIRST_WORD ≡ None) × (FIRST_WORD ≢ last)
+  pub begins : (tapes : Tapes) (n : ℕ) → n ≤ 2 ^ 40 → ComesTo image parameters.settings last n false 2000 (start image tapes n) (first_state program parameters.settings tapes)
+  pub statement : (n : ℕ) (m : machine.State) (s : State) (st : Statement) → n ≤ 2 ^ 40 → slice_get program.statements m.statement ≡ Some st → IsValid program parameters.settings m → m.steps < n → s.pc ≡ place image last m.statement → Represents parameters.settings n m s → Makes image parameters.settings last n (writes_records st.name) (cost program parameters st m) s (make_step program parameters st m)
+  pub bound : (n : ℕ) (m : machine.State) (s : State) → n ≤ 2 ^ 40 → m.statement < length program.statements → IsValid program parameters.settings m → m.steps ≡ n → s.pc ≡ place image last m.statement → Represents parameters.settings n m s → EndsAs image last false 2000 s (Some ends.Budget) m.tapes
+  pub past : (n : ℕ) (m : machine.State) (s : State) → n ≤ 2 ^ 40 → m.statement ≡ length program.statements → IsValid program parameters.settings m → s.pc ≡ last → Represents parameters.settings n m s → EndsAs image last false 2000 s (Some (ends.Undefined m.statement)) m.tapes

@@ -7,16 +7,17 @@ use crate::instrs::{
     add, add_lower, add_lower_wide, load, load_upper, operate, shift, skip, store,
 };
 use rv_isa::{BOp, IOp, Instr, ROp, SOp};
+use sil_base::{FIRST_CELL, FIRST_KIND};
 
 /// Where the first cell stands, and the kind of the first cell.
-const CELLS: u32 = 0x4000_0000;
+const CELLS: u32 = FIRST_CELL as u32;
 
-const KINDS: u32 = 0x5000_0000;
+const KINDS: u32 = FIRST_KIND as u32;
 
 /// Where the kind of the cell at an address stands.
 fn kind_place(at: u32) -> u32
-    requires first { 0x4000_0000 ≤ at }
-    requires last { at < 0x4000_0000 + 2 ^ 24 }
+    requires first { FIRST_CELL ≤ at }
+    requires last { at < FIRST_CELL + 2 ^ 24 }
     ensures { result ≡ kind_place at }
 {
     KINDS + (at - CELLS) / 16
@@ -25,8 +26,8 @@ fn kind_place(at: u32) -> u32
 /// The test that the static cell at an address is a descriptor.
 #[tactic(auto, unfolding(crate::specs::Code::check_code))]
 pub fn check_instrs(at: u32) -> [Instr; 7]
-    requires first { 0x4000_0000 ≤ at }
-    requires last { at < 0x4000_0000 + 2 ^ 24 }
+    requires first { FIRST_CELL ≤ at }
+    requires last { at < FIRST_CELL + 2 ^ 24 }
     ensures { result ≡ check_code at }
 {
     let kind = kind_place(at);
@@ -44,8 +45,8 @@ pub fn check_instrs(at: u32) -> [Instr; 7]
 /// An exit by the A field of the descriptor at an address.
 #[tactic(auto, unfolding(crate::specs::Code::exit_part))]
 pub fn exit_instrs(at: u32) -> [Instr; 6]
-    requires first { 0x4000_0000 ≤ at }
-    requires last { at < 0x4000_0000 + 2 ^ 24 }
+    requires first { FIRST_CELL ≤ at }
+    requires last { at < FIRST_CELL + 2 ^ 24 }
     ensures { result ≡ exit_part at }
 {
     [
@@ -61,8 +62,8 @@ pub fn exit_instrs(at: u32) -> [Instr; 6]
 /// A number of 64 bits is added to the A field of the descriptor at an address.
 #[tactic(auto, unfolding(crate::specs::Code::add_part))]
 pub fn add_instrs(at: u32, n: u64) -> [Instr; 13]
-    requires first { 0x4000_0000 ≤ at }
-    requires last { at < 0x4000_0000 + 2 ^ 24 }
+    requires first { FIRST_CELL ≤ at }
+    requires last { at < FIRST_CELL + 2 ^ 24 }
     ensures { result ≡ add_part at n }
 {
     let second = upper_wide(n);
@@ -88,10 +89,10 @@ pub fn add_instrs(at: u32, n: u64) -> [Instr; 13]
 /// The descriptor at an address is copied to the cell at another.
 #[tactic(auto, unfolding(crate::specs::Code::copy_part))]
 pub fn copy_instrs(to: u32, from: u32) -> [Instr; 11]
-    requires first_to { 0x4000_0000 ≤ to }
-    requires last_to { to < 0x4000_0000 + 2 ^ 24 }
-    requires first_from { 0x4000_0000 ≤ from }
-    requires last_from { from < 0x4000_0000 + 2 ^ 24 }
+    requires first_to { FIRST_CELL ≤ to }
+    requires last_to { to < FIRST_CELL + 2 ^ 24 }
+    requires first_from { FIRST_CELL ≤ from }
+    requires last_from { from < FIRST_CELL + 2 ^ 24 }
     ensures { result ≡ copy_part to from }
 {
     let kind = kind_place(to);

@@ -4,9 +4,10 @@ ghost use Rattle.rv_emit.specs.Code.{begin_code, past_code, start_code};
 
 use crate::instrs::{add, add_lower, load_upper, skip, store};
 use rv_isa::{BOp, Instr, SOp};
+use sil_base::FIRST_SCRATCH;
 
 /// Where the scratch region stands.
-const SCRATCH: u32 = 0x6C00_0000;
+const SCRATCH: u32 = FIRST_SCRATCH as u32;
 
 /// How statement k begins.
 #[tactic(auto, unfolding(crate::specs::Code::begin_code))]

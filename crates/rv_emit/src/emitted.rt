@@ -1,21 +1,16 @@
 // The words of whole programs.
 ghost use Rattle.std.specs.Prelude.{◌≡◌, ◌-◌, ◌<◌, ◌≤◌, ◌^◌, length, All, IfOk};
 ghost use Rattle.std.specs.List.{flat_map};
-ghost use Rattle.sil_model.specs.Start.{all_cells, empty_stack};
+ghost use Rattle.layout_params.specs.Areas.{all_cells, empty_stack};
+ghost use Rattle.sil_model.specs.Built.{AreStatic};
 ghost use Rattle.rv_emit.specs.Code.{natural_of, emitted_places, emitted_words, last_place, places_of, words_of};
-ghost use Rattle.rv_emit.specs.Emits.{CanEmit, Carries, FitsImage, HasCode};
+ghost use Rattle.rv_emit.specs.Emits.{CanEmit, Carries, FitsImage};
 
 use crate::statements::{append_past, append_start, append_statement};
 use layout_params::{Layout, Params};
-use sil_base::{Items, Record};
+use sil_base::{FIRST_CELL, FIRST_WORD, Items, MAX_CELLS, MAX_STATEMENTS, Record};
 use sil_model::{Program, Statement};
 use std::alloc::{AllocError, Global};
-
-/// Where the first word stands.
-const FIRST_PLACE: u64 = 0x1_0000;
-
-/// Where the first cell stands.
-const FIRST_CELL: u64 = 0x4000_0000;
 
 /// The code words of a program, the places of its statements, and its constants.
 #[derive(Drop)]
@@ -27,7 +22,7 @@ pub struct Emitted {
 
 /// The address of the cell before the stack of a program with so many static cells.
 fn top_of(statics: u64, params: &Params) -> u32
-    requires { all_cells params.now.settings statics ≤ 2 ^ 20 }
+    requires { all_cells params.now.settings statics ≤ MAX_CELLS }
     ensures { result ≡ natural_of (empty_stack params.now.settings statics) }
 {
     let descr = params.numbers().descr();
@@ -54,7 +49,7 @@ pub fn emit(alloc: Global, program: &Program, params: &Params) -> Result<Emitted
     ensures places { IfOk result (λ e. e.places ≡ emitted_places program.now params.now.settings) }
     ensures count { IfOk result (λ e. length e.places ≡ length program.now.statements) }
     ensures constants { IfOk result (λ e. e.constants ≡ flat_map (λ text. text) program.now.formats) }
-    ensures carries { IfOk result (λ e. Carries program.now params.now.settings e.words e.places (last_place program.now params.now.settings)) }
+    ensures carries { IfOk result (λ e. Carries program.now params.now e.words e.places (last_place program.now params.now.settings)) }
     ensures image { IfOk result (λ e. FitsImage e.words e.places) }
 {
     let statics = program.cells.items().len();
@@ -80,10 +75,10 @@ fn emit_code(
     top: u32,
     statics: usize,
 ) -> Result<(Vec<u32>, Vec<u64>), AllocError>
-    requires count { length statements.now ≤ 2 ^ 14 }
+    requires count { length statements.now ≤ MAX_STATEMENTS }
     requires top { top < 2 ^ 31 - 2 ^ 11 }
-    requires few { statics ≤ 2 ^ 20 }
-    requires code { All (λ s. HasCode statics s.name s.args) statements.now }
+    requires few { statics ≤ MAX_CELLS }
+    requires code { All (λ s. AreStatic 16 statics s.args) statements.now }
     ensures words { IfOk result (λ r. r.0.items ≡ words_of top statements.now) }
     ensures places { IfOk result (λ r. r.1.items ≡ places_of top statements.now) }
 {
@@ -91,7 +86,7 @@ fn emit_code(
     let mut places = Vec::new(alloc);
     append_start(&mut words, top)?;
     for (k, statement) in statements.iter().enumerate() {
-        places.push(FIRST_PLACE + 4 * words.len() as u64)?;
+        places.push(FIRST_WORD + 4 * words.len() as u64)?;
         append_statement(&mut words, k as u32, statement, statics)?;
     }
     append_past(&mut words, statements.len() as u32)?;

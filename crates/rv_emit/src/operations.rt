@@ -1,19 +1,20 @@
 // The words that follow the beginning of a statement.
 ghost use Rattle.std.specs.Prelude.{◌≡◌, ◌+◌, ◌-◌, ◌++◌, ◌<◌, ◌≤◌, ◌^◌, map, OnOk};
 ghost use Rattle.rv_isa.specs.Words.{word_of};
+ghost use Rattle.sil_model.specs.Built.{AreStatic};
 ghost use Rattle.rv_emit.specs.Code.{add_part, body_of, check_code, copy_part, exit_part};
-ghost use Rattle.rv_emit.specs.Emits.{HasCode};
 
 use crate::append::append;
 use crate::bodies::{add_instrs, check_instrs, copy_instrs, exit_instrs};
+use sil_base::{FIRST_CELL, MAX_CELLS};
 use sil_macros::Macro;
 use sil_model::{Arg, Statement};
 use std::alloc::AllocError;
 
 /// Appends the test that the static cell at an address is a descriptor.
 fn append_check(words: &mut Vec<u32>, at: u32) -> Result<(), AllocError>
-    requires first { 0x4000_0000 ≤ at }
-    requires last { at < 0x4000_0000 + 2 ^ 24 }
+    requires first { FIRST_CELL ≤ at }
+    requires last { at < FIRST_CELL + 2 ^ 24 }
     ensures { OnOk result (words.new.items ≡ words.old.items ++ map word_of (check_code at)) }
 {
     append(words, &check_instrs(at))
@@ -21,8 +22,8 @@ fn append_check(words: &mut Vec<u32>, at: u32) -> Result<(), AllocError>
 
 /// Appends an exit by the A field of the static cell at an address.
 fn append_exit(words: &mut Vec<u32>, at: u32) -> Result<(), AllocError>
-    requires first { 0x4000_0000 ≤ at }
-    requires last { at < 0x4000_0000 + 2 ^ 24 }
+    requires first { FIRST_CELL ≤ at }
+    requires last { at < FIRST_CELL + 2 ^ 24 }
     ensures { OnOk result (words.new.items ≡ words.old.items ++ map word_of (check_code at ++ exit_part at)) }
 {
     append_check(words, at)?;
@@ -31,8 +32,8 @@ fn append_exit(words: &mut Vec<u32>, at: u32) -> Result<(), AllocError>
 
 /// Appends the sum of a number of 64 bits and the A field of the static cell at an address.
 fn append_add(words: &mut Vec<u32>, at: u32, n: u64) -> Result<(), AllocError>
-    requires first { 0x4000_0000 ≤ at }
-    requires last { at < 0x4000_0000 + 2 ^ 24 }
+    requires first { FIRST_CELL ≤ at }
+    requires last { at < FIRST_CELL + 2 ^ 24 }
     ensures { OnOk result (words.new.items ≡ words.old.items ++ map word_of (check_code at ++ add_part at n)) }
 {
     append_check(words, at)?;
@@ -41,10 +42,10 @@ fn append_add(words: &mut Vec<u32>, at: u32, n: u64) -> Result<(), AllocError>
 
 /// Appends a copy of the static cell at an address to the cell at another.
 fn append_copy(words: &mut Vec<u32>, to: u32, from: u32) -> Result<(), AllocError>
-    requires first_to { 0x4000_0000 ≤ to }
-    requires last_to { to < 0x4000_0000 + 2 ^ 24 }
-    requires first_from { 0x4000_0000 ≤ from }
-    requires last_from { from < 0x4000_0000 + 2 ^ 24 }
+    requires first_to { FIRST_CELL ≤ to }
+    requires last_to { to < FIRST_CELL + 2 ^ 24 }
+    requires first_from { FIRST_CELL ≤ from }
+    requires last_from { from < FIRST_CELL + 2 ^ 24 }
     ensures { OnOk result (words.new.items ≡ words.old.items ++ map word_of (check_code from ++ copy_part to from)) }
 {
     append_check(words, from)?;
@@ -57,8 +58,8 @@ pub fn append_body(
     statement: &Statement,
     statics: usize,
 ) -> Result<(), AllocError>
-    requires few { statics ≤ 2 ^ 20 }
-    requires code { HasCode statics statement.now.name statement.now.args }
+    requires few { statics ≤ MAX_CELLS }
+    requires code { AreStatic 16 statics statement.now.args }
     ensures { OnOk result (words.new.items ≡ words.old.items ++ map word_of (body_of statement.now.name statement.now.args)) }
 {
     match (statement.name, statement.args.items()) {

@@ -1,8 +1,8 @@
 // The words of statements.
 ghost use Rattle.std.specs.Prelude.{◌≡◌, ◌-◌, ◌++◌, ◌<◌, ◌≤◌, ◌^◌, map, OnOk};
 ghost use Rattle.rv_isa.specs.Words.{word_of};
+ghost use Rattle.sil_model.specs.Built.{AreStatic};
 ghost use Rattle.rv_emit.specs.Code.{code_of, past_code, start_code};
-ghost use Rattle.rv_emit.specs.Emits.{HasCode};
 
 use crate::append::append;
 use crate::codes::{begin_instrs, past_instrs, start_instrs};
@@ -19,7 +19,7 @@ pub fn append_statement(
 ) -> Result<(), AllocError>
     requires number { k < 2 ^ 14 }
     requires few { statics ≤ 2 ^ 20 }
-    requires code { HasCode statics statement.now.name statement.now.args }
+    requires code { AreStatic 16 statics statement.now.args }
     ensures { OnOk result (words.new.items ≡ words.old.items ++ map word_of (code_of k statement.now)) }
 {
     append(words, &begin_instrs(k))?;

@@ -1,7 +1,7 @@
 -- A step asks an image only for its code, its constants and the number of its statements, and leaves the tapes alone.
 use Rattle.std.proofs.Common.{◌≡◌, ℕ, zero, suc, ◌-◌, ◌*◌, ◌/◌, ◌%◌, List, [], ◌∷◌, length, map, Bool, true, false, cond, ◌&&◌, ◌==◌, nat_le, Option, Some, None, ℤ, refl, sym, ap, ◌∙◌}
 use Rattle.std.specs.Prelude.{option_map, slice_get}
-use Rattle.sil_base.specs.Tapes.{Tapes}
+use Rattle.unit_io.specs.Tapes.{Tapes}
 use Rattle.rv_isa.specs.declared.instr.IOp.{IOp}
 use Rattle.rv_isa.specs.declared.instr.IOp.TheVariants.{Addi, Slti, Sltiu, Xori, Ori, Andi, Slli, Srli, Srai, Lb, Lh, Lw, Ld, Lbu, Lhu, Lwu, Jalr, Addiw, Slliw, Srliw, Sraiw, Fence}
 use Rattle.rv_isa.specs.declared.instr.UOp.TheVariants.{Lui, Auipc}
@@ -9,7 +9,8 @@ use Rattle.rv_isa.specs.declared.instr.Instr.{Instr}
 use Rattle.rv_isa.specs.declared.instr.Instr.TheVariants.{R, I, S, B, U, J, Ecall}
 use Rattle.rv_isa.specs.Words.{twos}
 use Rattle.rv_isa.specs.Decoded.{decoded}
-use Rattle.image_file.specs.Image.{Image, first_place}
+use Rattle.sil_base.specs.declared.places.TheConstants.{FIRST_WORD}
+use Rattle.image_file.specs.Image.{Image}
 use Rattle.rv_emulate.specs.declared.code.Code.{Code}
 use Rattle.rv_emulate.specs.Memory.{Memory, loaded, stored}
 use Rattle.rv_emulate.specs.States.{State, Outcome, On, Ended, register, statement_number}
@@ -45,8 +46,8 @@ if_map false o = refl
 
 instr_of_word : (words : List ℕ) (pc : ℕ) → instr_at (map decoded words) pc ≡ option_map decoded (word_at words pc)
 instr_of_word words pc =
-    ap (λ o. cond ((pc % 4 == 0) && nat_le first_place pc) o None) (get_map words ((pc - first_place) / 4))
-    ∙ if_map ((pc % 4 == 0) && nat_le first_place pc) (slice_get words ((pc - first_place) / 4))
+    ap (λ o. cond ((pc % 4 == 0) && nat_le FIRST_WORD pc) o None) (get_map words ((pc - FIRST_WORD) / 4))
+    ∙ if_map ((pc % 4 == 0) && nat_le FIRST_WORD pc) (slice_get words ((pc - FIRST_WORD) / 4))
 
 module _ (tapes : Tapes) where
   load_taped : (s : State) (rd : ℕ) (o : Option ℕ) → load_step (taped tapes s) rd o ≡ taped_outcome tapes (load_step s rd o)

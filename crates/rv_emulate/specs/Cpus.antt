@@ -1,6 +1,6 @@
 -- What contracts see of a Cpu.
-use Rattle.std.specs.Prelude.{◌≡◌, ℕ, List, map, Option, Some, None}
-use Rattle.sil_base.specs.Tapes.{Tapes}
+use Rattle.std.specs.Prelude.{◌≡◌, ℕ, Bool, true, List, map, Option, Some, None, is_some}
+use Rattle.unit_io.specs.Tapes.{Tapes}
 use Rattle.rv_isa.specs.declared.instr.Instr.{Instr}
 use Rattle.rv_isa.specs.Decoded.{decoded}
 use Rattle.image_file.specs.Image.{Image}
@@ -10,7 +10,7 @@ use Rattle.rv_emulate.specs.declared.end.CpuStep.TheVariants as steps
 use Rattle.rv_emulate.specs.Memory.{Memory}
 use Rattle.rv_emulate.specs.States.{State, Outcome, On, Ended}
 
--- the instructions of its image's words, none where a word is no instruction, its constants, and its statements' places; the place of the next instruction, the registers and the memory; and how its run has ended, if it has
+-- the instructions of its image's words, none where a word is no instruction, its constants, and its statements' places; the place of the next instruction, the registers and the memory; the unit of the last unit call where that call failed; and how its run has ended, if it has
 pub record CpuState : Type 0 where
   pub code : List (Option Instr)
   pub constants : List ℕ
@@ -18,6 +18,7 @@ pub record CpuState : Type 0 where
   pub pc : ℕ
   pub registers : List ℕ
   pub memory : Memory
+  pub failed : Option ℕ
   pub ended : Option CpuEnd
 
 -- it runs this image
@@ -26,9 +27,9 @@ pub record IsOf (image : Image) (cpu : CpuState) : Type 0 where
   pub constants : cpu.constants ≡ image.constants
   pub places : cpu.places ≡ map (λ e. e.place) image.statements
 
--- the state that it is in, with the tapes of its units; no unit is there, so no call of one has failed
+-- the state that it is in, with the tapes of its units
 abbrev pub state : CpuState → Tapes → State
-state cpu tapes = record { pc = cpu.pc; registers = cpu.registers; memory = cpu.memory; tapes = tapes; failed = None }
+state cpu tapes = record { pc = cpu.pc; registers = cpu.registers; memory = cpu.memory; tapes = tapes; failed = cpu.failed }
 
 abbrev pub stands_with : Option CpuEnd → State → Outcome
 stands_with None s = On s
@@ -37,6 +38,11 @@ stands_with (Some e) s = Ended (Some e) s.tapes
 -- where its run stands: in a state, or at its end
 abbrev pub stands : CpuState → Tapes → Outcome
 stands cpu tapes = stands_with cpu.ended (state cpu tapes)
+
+-- whether the units tell what was done: a run that comes to one that doesn't tell its tape has no end
+abbrev pub is_told : Outcome → Bool
+is_told (On s) = true
+is_told (Ended end tapes) = is_some end
 
 -- it runs the same image
 pub record SameImage (old new : CpuState) : Type 0 where

@@ -1,6 +1,7 @@
 -- The regions of the emulator's memory, and loads and stores.
 use Rattle.std.specs.Prelude.{ℕ, ◌+◌, ◌-◌, ◌%◌, Bool, ◌&&◌, ◌||◌, ◌==◌, nat_le, List, length, Option, Some, None, option_map, if◌then◌else◌}
 use Rattle.sil_base.specs.Bytes.{number, low_bytes, piece, with_piece}
+use Rattle.sil_base.specs.declared.places.TheConstants.{FIRST_CELL, FIRST_CONSTANT, FIRST_KIND, FIRST_SCRATCH, FIRST_TABLE}
 
 -- the regions that a store may change: the cells, their kinds, the tables, and the scratch bytes
 pub record Memory : Type 0 where
@@ -8,24 +9,6 @@ pub record Memory : Type 0 where
   pub kinds : List ℕ
   pub tables : List ℕ
   pub scratch : List ℕ
-
-abbrev pub cells_place : ℕ
-cells_place = 0x4000_0000
-
-abbrev pub kinds_place : ℕ
-kinds_place = 0x5000_0000
-
-abbrev pub tables_place : ℕ
-tables_place = 0x6000_0000
-
-abbrev pub constants_place : ℕ
-constants_place = 0x6800_0000
-
-abbrev pub scratch_place : ℕ
-scratch_place = 0x6C00_0000
-
-abbrev pub scratch_size : ℕ
-scratch_size = 65536
 
 -- n bytes at an address lie in the region of these bytes from its first place on
 abbrev pub holds : ℕ → List ℕ → ℕ → ℕ → Bool
@@ -42,7 +25,7 @@ or_else None o = o
 unfoldable pub loaded : List ℕ → Memory → ℕ → ℕ → Option ℕ
 loaded constants m n address =
     if address % n == 0
-    then or_else (load_from cells_place m.cells n address) (or_else (load_from kinds_place m.kinds n address) (or_else (load_from tables_place m.tables n address) (or_else (load_from constants_place constants n address) (load_from scratch_place m.scratch n address))))
+    then or_else (load_from FIRST_CELL m.cells n address) (or_else (load_from FIRST_KIND m.kinds n address) (or_else (load_from FIRST_TABLE m.tables n address) (or_else (load_from FIRST_CONSTANT constants n address) (load_from FIRST_SCRATCH m.scratch n address))))
     else None
 
 abbrev pub store_into : ℕ → List ℕ → ℕ → ℕ → ℕ → Option (List ℕ)
@@ -52,14 +35,14 @@ store_into first bytes n address v = if holds first bytes n address then Some (w
 unfoldable pub stored : Memory → ℕ → ℕ → ℕ → Option Memory
 stored m n address v =
     if address % n == 0
-    then or_else (option_map (λ b. record m { cells = b }) (store_into cells_place m.cells n address v)) (or_else (option_map (λ b. record m { kinds = b }) (store_into kinds_place m.kinds n address v)) (or_else (option_map (λ b. record m { tables = b }) (store_into tables_place m.tables n address v)) (option_map (λ b. record m { scratch = b }) (store_into scratch_place m.scratch n address v))))
+    then or_else (option_map (λ b. record m { cells = b }) (store_into FIRST_CELL m.cells n address v)) (or_else (option_map (λ b. record m { kinds = b }) (store_into FIRST_KIND m.kinds n address v)) (or_else (option_map (λ b. record m { tables = b }) (store_into FIRST_TABLE m.tables n address v)) (option_map (λ b. record m { scratch = b }) (store_into FIRST_SCRATCH m.scratch n address v))))
     else None
 
 -- n bytes at an address lie in one region that can be stored to, as no bytes do anywhere
 unfoldable pub can_store : Memory → ℕ → ℕ → Bool
 can_store m n address =
-    (n == 0) || holds cells_place m.cells n address || holds kinds_place m.kinds n address || holds tables_place m.tables n address || holds scratch_place m.scratch n address
+    (n == 0) || holds FIRST_CELL m.cells n address || holds FIRST_KIND m.kinds n address || holds FIRST_TABLE m.tables n address || holds FIRST_SCRATCH m.scratch n address
 
 -- n bytes at an address lie in one region that can be loaded from, as no bytes do anywhere
 unfoldable pub can_load : List ℕ → Memory → ℕ → ℕ → Bool
-can_load constants m n address = can_store m n address || holds constants_place constants n address
+can_load constants m n address = can_store m n address || holds FIRST_CONSTANT constants n address

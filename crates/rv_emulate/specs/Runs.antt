@@ -1,7 +1,7 @@
 -- Runs of the emulator, and the statements that they meet.
 use Rattle.std.specs.Prelude.{ℕ, zero, suc, ◌+◌, ◌*◌, List, [], ◌∷◌, ◌++◌, Option, Some, None, if◌then◌else◌, ◌==◌}
-use Rattle.sil_base.specs.Tapes.{Tapes}
-use Rattle.sil_model.specs.Runs.{Run}
+use Rattle.unit_io.specs.Tapes.{Tapes}
+use Rattle.unit_io.specs.Runs.{Run}
 use Rattle.image_file.specs.Image.{Image, StatementEntry}
 use Rattle.rv_emulate.specs.declared.end.CpuEnd.{CpuEnd}
 use Rattle.rv_emulate.specs.declared.end.CpuEnd.TheVariants.{Runaway}

@@ -1,10 +1,12 @@
 -- The states of the emulator.
 use Rattle.std.specs.Prelude.{ℕ, zero, suc, ◌-◌, ◌*◌, List, ◌++◌, length, replicate, Option, None, slice_index, slice_set}
-use Rattle.sil_base.specs.Tapes.{Tapes}
-use Rattle.sil_model.specs.Start.{all_cells}
-use Rattle.image_file.specs.Image.{Image, first_place}
+use Rattle.unit_io.specs.Tapes.{Tapes}
+use Rattle.layout_params.specs.Areas.{all_cells}
+use Rattle.sil_base.specs.declared.places.TheConstants.{FIRST_WORD}
+use Rattle.image_file.specs.Image.{Image}
 use Rattle.rv_emulate.specs.declared.end.CpuEnd.{CpuEnd}
-use Rattle.rv_emulate.specs.Memory.{Memory, scratch_size}
+use Rattle.sil_base.specs.declared.limits.TheConstants.{SCRATCH_BYTES}
+use Rattle.rv_emulate.specs.Memory.{Memory}
 
 -- the place of the next instruction, the registers x0 to x31, the memory, the tapes of the units, and the unit of the last unit call where that call failed
 pub record State : Type 0 where
@@ -52,13 +54,13 @@ first_memory image = record {
   cells = padded (cell_total image * image.settings.sizes.descr) image.cells;
   kinds = padded (cell_total image) image.kinds;
   tables = image.tables;
-  scratch = replicate scratch_size 0;
+  scratch = replicate SCRATCH_BYTES 0;
 }
 
 -- the start of a run of at most n statements
 unfoldable pub start : Image → Tapes → ℕ → State
 start image tapes n = record {
-  pc = first_place;
+  pc = FIRST_WORD;
   registers = first_registers n;
   memory = first_memory image;
   tapes = tapes;

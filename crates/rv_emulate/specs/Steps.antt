@@ -8,7 +8,8 @@ use Rattle.rv_isa.specs.declared.instr.Instr.{Instr}
 use Rattle.rv_isa.specs.declared.instr.Instr.TheVariants.{R, I, S, B, U, J, Ecall}
 use Rattle.rv_isa.specs.Words.{twos}
 use Rattle.rv_isa.specs.Decoded.{decoded}
-use Rattle.image_file.specs.Image.{Image, first_place}
+use Rattle.sil_base.specs.declared.places.TheConstants.{FIRST_WORD}
+use Rattle.image_file.specs.Image.{Image}
 use Rattle.rv_emulate.specs.declared.end.CpuEnd.{CpuEnd}
 use Rattle.rv_emulate.specs.declared.end.CpuEnd.TheVariants.{Illegal, Fetch, Load, Store}
 use Rattle.rv_emulate.specs.Memory.{Memory, loaded, stored}
@@ -103,7 +104,7 @@ with_word image (Some w) s = with_instr image (decoded w) s
 
 -- the word at a place of the code, which is a multiple of 4
 abbrev pub word_at : List ℕ → ℕ → Option ℕ
-word_at words pc = if (pc % 4 == 0) && nat_le first_place pc then slice_get words ((pc - first_place) / 4) else None
+word_at words pc = if (pc % 4 == 0) && nat_le FIRST_WORD pc then slice_get words ((pc - FIRST_WORD) / 4) else None
 
 unfoldable pub step : Image → State → Outcome
 step image s = with_word image (word_at image.words s.pc) s

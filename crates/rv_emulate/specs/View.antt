@@ -3,7 +3,8 @@ use Rattle.std.specs.Prelude.{◌≡◌, ℕ, zero, suc, ◌-◌, ◌/◌, ◌%�
 use Rattle.layout_params.specs.Parameters.{standard}
 use Rattle.sil_macros.specs.declared.names.Macro.TheVariants.{Endex}
 use Rattle.rv_isa.specs.declared.instr.Instr.{Instr}
-use Rattle.image_file.specs.Image.{Image, StatementEntry, first_place}
+use Rattle.sil_base.specs.declared.places.TheConstants.{FIRST_WORD}
+use Rattle.image_file.specs.Image.{Image, StatementEntry}
 use Rattle.rv_emulate.specs.declared.code.Code.{Code}
 use Rattle.rv_emulate.specs.declared.memory.Regions.{Regions}
 use Rattle.rv_emulate.specs.declared.hart.Hart.{Hart}
@@ -20,9 +21,9 @@ use Rattle.rv_emulate.specs.Runs.{on_state}
 abbrev pub memory_of : Regions → Memory
 memory_of m = record { cells = m.cells.items; kinds = m.kinds.items; tables = m.tables.items; scratch = m.scratch.items }
 
--- without tapes, which no instruction reads yet; no unit is there, so no call of one has failed
+-- without tapes, which no instruction reads yet
 abbrev pub state_of : Hart → State
-state_of h = record { pc = h.pc; registers = h.registers; memory = memory_of h.memory; tapes = []; failed = None }
+state_of h = record { pc = h.pc; registers = h.registers; memory = memory_of h.memory; tapes = []; failed = h.failed }
 
 -- what contracts see of a Cpu
 abbrev pub view_of : Code → Hart → Option CpuEnd → CpuState
@@ -33,6 +34,7 @@ view_of c h ended = record {
   pc = h.pc;
   registers = h.registers;
   memory = memory_of h.memory;
+  failed = h.failed;
   ended = ended;
 }
 
@@ -53,7 +55,7 @@ image_of c = record {
 
 -- the instruction at a place of the code: none outside it, and none where the word there is no instruction
 abbrev pub instr_at : List (Option Instr) → ℕ → Option (Option Instr)
-instr_at instrs pc = if (pc % 4 == 0) && nat_le first_place pc then slice_get instrs ((pc - first_place) / 4) else None
+instr_at instrs pc = if (pc % 4 == 0) && nat_le FIRST_WORD pc then slice_get instrs ((pc - FIRST_WORD) / 4) else None
 
 abbrev pub with_fetched : Image → Option (Option Instr) → State → Outcome
 with_fetched image None s = ends_with (Fetch s.pc) s

@@ -6,7 +6,8 @@ ghost use Rattle.rv_emulate.specs.Memory.{holds, load_from, loaded, store_into, 
 ghost use Rattle.rv_emulate.specs.View.{Puts, memory_of};
 
 use crate::bytes::number_of;
-use crate::memory::{CELLS, CONSTANTS, KINDS, Regions, SCRATCH, TABLES, holds};
+use crate::memory::{Regions, holds};
+use sil_base::{FIRST_CELL, FIRST_CONSTANT, FIRST_KIND, FIRST_SCRATCH, FIRST_TABLE};
 
 fn is_aligned(width: usize, address: u64) -> bool
     requires { (width ≡ 1) ⊎ (width ≡ 2) ⊎ (width ≡ 4) ⊎ (width ≡ 8) }
@@ -60,19 +61,19 @@ pub(crate) fn load(constants: &[u8], regions: &Regions, width: usize, address: u
     if !is_aligned(width, address) {
         return None;
     }
-    if let Some(n) = number_in(CELLS, &regions.cells, width, address) {
+    if let Some(n) = number_in(FIRST_CELL, &regions.cells, width, address) {
         return Some(n);
     }
-    if let Some(n) = number_in(KINDS, &regions.kinds, width, address) {
+    if let Some(n) = number_in(FIRST_KIND, &regions.kinds, width, address) {
         return Some(n);
     }
-    if let Some(n) = number_in(TABLES, &regions.tables, width, address) {
+    if let Some(n) = number_in(FIRST_TABLE, &regions.tables, width, address) {
         return Some(n);
     }
-    if let Some(n) = number_in(CONSTANTS, constants, width, address) {
+    if let Some(n) = number_in(FIRST_CONSTANT, constants, width, address) {
         return Some(n);
     }
-    number_in(SCRATCH, &regions.scratch, width, address)
+    number_in(FIRST_SCRATCH, &regions.scratch, width, address)
 }
 
 /// Stores the `width` lowest bytes of a number at an address, where it is aligned and a region that
@@ -85,14 +86,14 @@ pub(crate) fn store(regions: &mut Regions, width: usize, address: u64, value: u6
     if !is_aligned(width, address) {
         return false;
     }
-    if put_in(CELLS, &mut regions.cells, width, address, value) {
+    if put_in(FIRST_CELL, &mut regions.cells, width, address, value) {
         return true;
     }
-    if put_in(KINDS, &mut regions.kinds, width, address, value) {
+    if put_in(FIRST_KIND, &mut regions.kinds, width, address, value) {
         return true;
     }
-    if put_in(TABLES, &mut regions.tables, width, address, value) {
+    if put_in(FIRST_TABLE, &mut regions.tables, width, address, value) {
         return true;
     }
-    put_in(SCRATCH, &mut regions.scratch, width, address, value)
+    put_in(FIRST_SCRATCH, &mut regions.scratch, width, address, value)
 }

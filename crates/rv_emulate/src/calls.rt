@@ -1,14 +1,15 @@
 // Calls, by their numbers in a7 and their operands in a0 to a5.
 
-ghost use Rattle.std.specs.Prelude.{◌≡◌, ◌<◌, ◌^◌, None, length};
+ghost use Rattle.std.specs.Prelude.{◌≡◌, ◌<◌, ◌^◌, length};
 ghost use Rattle.rv_emulate.specs.States.{register};
 ghost use Rattle.rv_emulate.specs.Memory.{can_load, can_store};
-ghost use Rattle.rv_emulate.specs.Calls.{call, can_take, is_unit_call};
+ghost use Rattle.rv_emulate.specs.Calls.{call, can_take, is_unit_call, unit_fault};
 ghost use Rattle.rv_emulate.specs.View.{memory_of};
 
 use crate::end::CpuEnd;
 use crate::hart::Hart;
-use crate::memory::{CELLS, CONSTANTS, KINDS, Regions, SCRATCH, TABLES, holds};
+use crate::memory::{Regions, holds};
+use sil_base::{FIRST_CELL, FIRST_CONSTANT, FIRST_KIND, FIRST_SCRATCH, FIRST_TABLE};
 
 /// The answer of a call on a unit that is absent.
 pub(crate) const ABSENT: u64 = 4;
@@ -34,7 +35,7 @@ impl Hart {
     /// The end of any other call, under this number of statements.
     pub(crate) fn end_of_call(&self, count: u64) -> CpuEnd
         requires { count < 2 ^ 32 }
-        ensures { result ≡ call count (register self.now.registers 17) (register self.now.registers 10) (register self.now.registers 26) None self.now.pc }
+        ensures { result ≡ call count (register self.now.registers 17) (register self.now.registers 10) (register self.now.registers 26) self.now.failed self.now.pc }
     {
         let statement = self.registers[26];
         if self.registers[17] != 1 || statement > count {
@@ -46,7 +47,18 @@ impl Hart {
             2 => CpuEnd::Trap(statement as u32),
             3 => CpuEnd::Undefined(statement as u32),
             4 => CpuEnd::Budget,
+            5 => self.unit_fault(statement as u32),
             _ => CpuEnd::BadCall(self.pc),
+        }
+    }
+
+    /// The end at a statement where the last unit call failed.
+    fn unit_fault(&self, statement: u32) -> CpuEnd
+        ensures { result ≡ unit_fault statement self.now.failed self.now.pc }
+    {
+        match self.failed {
+            Some(unit) => CpuEnd::UnitFault(statement, unit),
+            None => CpuEnd::BadCall(self.pc),
         }
     }
 }
@@ -68,10 +80,10 @@ fn can_store(regions: &Regions, n: u64, address: u64) -> bool
     ensures { result ≡ can_store (memory_of regions.now) n address }
 {
     n == 0
-        || holds(CELLS, &regions.cells, n, address)
-        || holds(KINDS, &regions.kinds, n, address)
-        || holds(TABLES, &regions.tables, n, address)
-        || holds(SCRATCH, &regions.scratch, n, address)
+        || holds(FIRST_CELL, &regions.cells, n, address)
+        || holds(FIRST_KIND, &regions.kinds, n, address)
+        || holds(FIRST_TABLE, &regions.tables, n, address)
+        || holds(FIRST_SCRATCH, &regions.scratch, n, address)
 }
 
 /// Whether one region that can be loaded from holds so many bytes at an address; each holds none.
@@ -79,5 +91,5 @@ fn can_store(regions: &Regions, n: u64, address: u64) -> bool
 fn can_load(constants: &[u8], regions: &Regions, n: u64, address: u64) -> bool
     ensures { result ≡ can_load constants.now (memory_of regions.now) n address }
 {
-    can_store(regions, n, address) || holds(CONSTANTS, constants, n, address)
+    can_store(regions, n, address) || holds(FIRST_CONSTANT, constants, n, address)
 }

@@ -5,9 +5,6 @@ ghost use Rattle.rv_emulate.specs.Ranges.{are_in_range, Rises};
 
 use rv_isa::Instr;
 
-/// The place of the first word.
-pub(crate) const FIRST_PLACE: u64 = 0x1_0000;
-
 /// The instruction of each word, none where there is none, the constants, and the places of the
 /// statements.
 #[derive(Drop)]

@@ -1,20 +1,20 @@
 // The emulator as its callers see it.
 
-ghost use Rattle.std.specs.Prelude.{◌≡◌, ◌==◌, ◌<◌, ◌^◌, Some, IfSome, length};
+ghost use Rattle.std.specs.Prelude.{◌≡◌, ◌==◌, ◌<◌, ◌^◌, Some, IfSome, length, true};
 ghost use Rattle.std.specs.List.{position_from};
-ghost use Rattle.sil_base.specs.Tapes.{Tapes};
-ghost use Rattle.sil_base.specs.Units.{tapes_of};
+ghost use Rattle.unit_io.specs.Tapes.{Tapes};
+ghost use Rattle.unit_io.specs.Units.{tapes_of};
 ghost use Rattle.image_file.specs.Image.{Image};
 ghost use Rattle.rv_emulate.specs.Ranges.{Rises};
 ghost use Rattle.rv_emulate.specs.Steps.{step};
 ghost use Rattle.rv_emulate.specs.Runs.{run, on_state, end_of, met_now};
-ghost use Rattle.rv_emulate.specs.Cpus.{IsOf, SameImage, IfEnded, stands, state, answer_of};
+ghost use Rattle.rv_emulate.specs.Cpus.{IsOf, SameImage, IfEnded, stands, state, answer_of, is_told};
 
 use crate::code::Code;
 use crate::end::{CpuEnd, CpuStep};
 use crate::hart::Hart;
-use sil_base::UnitSet;
 use std::marker::Model;
+use unit_io::UnitSet;
 
 /// A run of an image, which is made step by step.
 #[derive(Drop)]
@@ -36,7 +36,9 @@ impl Model for Cpu {
 impl Cpu {
     /// Makes one step. After an end it answers that end again.
     pub fn step<U: UnitSet>(&mut self, units: &mut U) -> CpuStep
-        ensures stands { (image : Image) → IsOf image self.old → stands self.new (tapes_of (U.seen units.new)) ≡ on_state (stands self.old (tapes_of (U.seen units.old))) (step image) }
+        ensures stands { (image : Image) → IsOf image self.old
+            → let outcome = on_state (stands self.old (tapes_of (U.seen units.old))) (step image)
+            in is_told outcome ≡ true → stands self.new (tapes_of (U.seen units.new)) ≡ outcome }
         ensures answer { result ≡ answer_of self.new.ended }
         ensures ended { IfEnded result (λ e. self.new ≡ record self.old { ended = Some e }) }
         ensures image { SameImage self.old self.new }
@@ -55,8 +57,10 @@ impl Cpu {
     /// Makes at most `budget` steps, and answers how the run ends: `Runaway` where it hasn't, and then
     /// it may be run further. After an end it answers that end again.
     pub fn run<U: UnitSet>(&mut self, units: &mut U, budget: u128) -> CpuEnd
-        ensures stands { (image : Image) → IsOf image self.old → stands self.new (tapes_of (U.seen units.new)) ≡ on_state (stands self.old (tapes_of (U.seen units.old))) (run image budget) }
-        ensures end { (image : Image) → IsOf image self.old → end_of (on_state (stands self.old (tapes_of (U.seen units.old))) (run image budget)) ≡ Some result }
+        ensures stands { (image : Image) → IsOf image self.old
+            → let outcome = on_state (stands self.old (tapes_of (U.seen units.old))) (run image budget)
+            in is_told outcome ≡ true → (stands self.new (tapes_of (U.seen units.new)) ≡ outcome)
+            × (end_of outcome ≡ Some result) }
         ensures image { SameImage self.old self.new }
         ensures units { U.seen units.new ≡ U.seen units.old }
     {

@@ -6,12 +6,14 @@ ghost use Rattle.rv_emulate.specs.View.{state_of};
 
 use crate::memory::Regions;
 
-/// A hardware thread: the place of the next instruction, the registers x0 to x31, and the memory.
+/// A hardware thread: the place of the next instruction, the registers x0 to x31, the memory, and
+/// the unit of the last unit call where that call failed.
 #[derive(Drop)]
 pub(crate) struct Hart {
     pub(crate) pc: u64,
     pub(crate) registers: [u64; 32],
     pub(crate) memory: Regions,
+    pub(crate) failed: Option<u32>,
 }
 
 impl Hart {

@@ -12,8 +12,6 @@ mod memory;
 mod run;
 mod start;
 mod step;
-#[cfg(test)]
-mod tests;
 mod values;
 
 pub use cpu::Cpu;

@@ -3,16 +3,6 @@
 ghost use Rattle.std.specs.Prelude.{◌≡◌, ◌<◌, ◌^◌, length};
 ghost use Rattle.rv_emulate.specs.Memory.{holds};
 
-pub(crate) const CELLS: u64 = 0x4000_0000;
-
-pub(crate) const KINDS: u64 = 0x5000_0000;
-
-pub(crate) const TABLES: u64 = 0x6000_0000;
-
-pub(crate) const CONSTANTS: u64 = 0x6800_0000;
-
-pub(crate) const SCRATCH: u64 = 0x6C00_0000;
-
 /// The regions that a store may change.
 #[derive(Drop)]
 pub(crate) struct Regions {

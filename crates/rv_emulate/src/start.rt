@@ -1,7 +1,7 @@
 // The start of a run.
 
 ghost use Rattle.std.specs.Prelude.{◌≡◌, ◌+◌, ◌-◌, ◌*◌, ◌/◌, ◌<◌, ◌≤◌, ◌^◌, ◌++◌, IfOk, length, map, replicate, slice_index};
-ghost use Rattle.sil_base.specs.Tapes.{Tapes};
+ghost use Rattle.unit_io.specs.Tapes.{Tapes};
 ghost use Rattle.rv_isa.specs.Decoded.{decoded};
 ghost use Rattle.image_file.specs.Image.{IsImage};
 ghost use Rattle.rv_emulate.specs.States.{On, cell_total, first_memory, first_registers, padded, start};
@@ -9,22 +9,21 @@ ghost use Rattle.rv_emulate.specs.Runs.{budget, budget_of};
 ghost use Rattle.rv_emulate.specs.Cpus.{IsOf, stands};
 ghost use Rattle.rv_emulate.specs.View.{memory_of};
 
-use crate::code::{Code, FIRST_PLACE};
+use crate::code::Code;
 use crate::cpu::Cpu;
 use crate::hart::Hart;
 use crate::memory::Regions;
 use image_file::Image;
 use layout_params::Layout;
 use rv_isa::{Instr, decode};
+use sil_base::{FIRST_WORD, MAX_CELLS, MAX_STEPS, SCRATCH_BYTES};
 use std::alloc::{AllocError, Global};
-
-const SCRATCH_SIZE: usize = 65536;
 
 impl Cpu {
     /// A run of an image, of at most `n` statements. It takes all the memory that its steps need.
     #[tactic(auto, unfolding(crate::specs::States::start))]
     pub fn new(alloc: Global, image: &Image, n: u64) -> Result<Cpu, AllocError>
-        requires { n ≤ 2 ^ 40 }
+        requires { n ≤ MAX_STEPS }
         ensures image { IfOk result (λ cpu. IsOf image.now cpu) }
         ensures start { IfOk result (λ cpu. (tapes : Tapes) → stands cpu tapes ≡ On (start image.now tapes n)) }
     {
@@ -33,9 +32,10 @@ impl Cpu {
         Ok(Cpu {
             code,
             hart: Hart {
-                pc: FIRST_PLACE,
+                pc: FIRST_WORD,
                 registers: first_registers(n),
                 memory,
+                failed: None,
             },
             ended: None,
         })
@@ -44,15 +44,15 @@ impl Cpu {
 
 /// The instructions that a run of at most `n` statements may take.
 pub fn budget(image: &Image, n: u64) -> u128
-    requires { n ≤ 2 ^ 40 }
+    requires { n ≤ MAX_STEPS }
     ensures { result ≡ budget image.now n }
 {
     budget_of(n, image.cell_total(), image.numbers().descr())
 }
 
 fn budget_of(n: u64, cells: u64, descr: u64) -> u128
-    requires n { n ≤ 2 ^ 40 }
-    requires cells { cells ≤ 2 ^ 20 }
+    requires n { n ≤ MAX_STEPS }
+    requires cells { cells ≤ MAX_CELLS }
     requires descr { descr ≤ 64 }
     ensures { result ≡ budget_of n cells descr }
 {
@@ -73,7 +73,7 @@ fn first_registers(n: u64) -> [u64; 32]
 fn first_memory(alloc: Global, image: &Image) -> Result<Regions, AllocError>
     ensures { IfOk result (λ regions. memory_of regions ≡ first_memory image.now) }
 {
-    let scratch = zeros(alloc, SCRATCH_SIZE)?;
+    let scratch = zeros(alloc, SCRATCH_BYTES)?;
     regions(alloc, image, scratch)
 }
 

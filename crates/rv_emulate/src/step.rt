@@ -8,11 +8,12 @@ ghost use Rattle.rv_emulate.specs.View.{code_step, image_of, instr_at, state_of,
 
 use crate::access::{load, store};
 use crate::calls::ABSENT;
-use crate::code::{Code, FIRST_PLACE};
+use crate::code::Code;
 use crate::end::{CpuEnd, CpuStep};
 use crate::hart::Hart;
 use crate::values::{extend, extend_bytes, is_taken, value_of_r, wide, wide_jump};
 use rv_isa::{BOp, IOp, Instr, ROp, SOp, UOp};
+use sil_base::FIRST_WORD;
 
 impl Hart {
     /// Makes one step, or says how the run ends and changes nothing.
@@ -33,8 +34,8 @@ impl Hart {
         ensures range { are_in_range result ≡ true }
         ensures room { IfSome result (λ o. self.now.pc < 2 ^ 62) }
     {
-        if self.pc % 4 == 0 && self.pc >= FIRST_PLACE {
-            let k = ((self.pc - FIRST_PLACE) / 4) as usize;
+        if self.pc % 4 == 0 && self.pc >= FIRST_WORD {
+            let k = ((self.pc - FIRST_WORD) / 4) as usize;
             code.instrs.get(k).copied()
         } else {
             None
@@ -193,6 +194,7 @@ impl Hart {
     {
         if self.is_unit_call(&code.constants) {
             self.go(self.pc + 4, 10, ABSENT);
+            self.failed = None;
             CpuStep::Next
         } else {
             CpuStep::Ended(self.end_of_call(code.places.len() as u64))

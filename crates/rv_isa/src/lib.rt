@@ -9,8 +9,6 @@ mod instr;
 pub mod laws;
 mod parts;
 mod rows;
-#[cfg(test)]
-mod tests;
 
 pub use decoding::decode;
 pub use encoding::encode;

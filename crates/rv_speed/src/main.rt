@@ -6,9 +6,9 @@ use image_file::Image;
 use layout_params::{STANDARD_PARAMS, read_params};
 use rv_emulate::{Cpu, CpuEnd};
 use rv_isa::{BOp, IOp, Instr, ROp, SOp, UOp, encode};
-use sil_base::Units;
 use std::alloc::{AllocError, Global};
 use std::{env, io};
+use unit_io::Units;
 
 const DEFAULT: u64 = 100_000;
 

@@ -4,10 +4,10 @@
 mod adapters;
 
 use adapters::{FileStore, WriterSink};
-use sil_base::Units;
-use sil_cli::sil_main;
+use sil_cli::{after_finishes, sil_main};
 use std::process::ExitCode;
 use std::{env, io};
+use unit_io::Units;
 
 /// Runs the program's words over the real world. The error is want of memory.
 fn run(rt: &HostRuntime) -> io::Result<u8> {
@@ -20,8 +20,8 @@ fn run(rt: &HostRuntime) -> io::Result<u8> {
     let mut notes = WriterSink::new(rt.stderr());
     let mut units = Units::new();
     let status = sil_main(alloc, &words, &mut store, &mut units, &mut notes);
-    let _ = units.close_all();
-    Ok(status.code)
+    let failed = units.close_all();
+    Ok(after_finishes(status.code, failed))
 }
 
 fn main(rt: HostRuntime) -> ExitCode {

@@ -1,1 +1,4 @@
 pub mod Numbers
+pub mod Digits
+pub mod LineLemmas
+pub mod Searches

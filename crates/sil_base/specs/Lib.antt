@@ -6,5 +6,7 @@ pub mod Stores
 pub mod Logs
 pub mod MemoryStates
 pub mod Memory
-pub mod Tapes
-pub mod Units
+pub mod Names
+pub mod Lines
+pub mod Faults
+pub mod Loads

@@ -1,7 +1,15 @@
 // Lines of what is read, and the faults found in them.
+ghost use Rattle.std.specs.Prelude.{◌≡◌};
+ghost use Rattle.sil_base.specs.Faults.{fault_at};
 
-/// A line of a text. `file` is 0 for the source, 1 for the tables and 2 for the parameters; lines
-/// are numbered from 1.
+/// The file of a line: the source with what it copies, the tables, or the parameters.
+pub const SOURCE_FILE: u8 = 0;
+
+pub const TABLES_FILE: u8 = 1;
+
+pub const PARAMETER_FILE: u8 = 2;
+
+/// A line of a file; lines are numbered from 1.
 #[derive(Debug, Clone, Copy, PartialEq, Eq)]
 pub struct Line {
     pub file: u8,
@@ -20,4 +28,14 @@ pub struct FaultCode {
 pub struct Fault {
     pub line: Line,
     pub code: FaultCode,
+}
+
+/// The fault of a line of a file.
+pub fn fault_at(file: u8, letter: u8, line: u32, rule: u8) -> Fault
+    ensures { result ≡ fault_at file letter line rule }
+{
+    Fault {
+        line: Line { file, number: line },
+        code: FaultCode { letter, rule },
+    }
 }

@@ -18,7 +18,8 @@ use Rattle.sil_cards.specs.Fields.{Fields, fields_of, is_comment}
 use Rattle.sil_cards.specs.Readings.{given_cards, given_faults, limited, is_full}
 use Rattle.sil_cards.specs.Steps.{AreFirst, IsGoing, HasEnded, StepKeeps, step_of}
 use Rattle.sil_cards.specs.declared.reader.Reader.{Reader}
-use Rattle.sil_cards.specs.Verdicts.{is_word, is_card_byte, is_macro, is_label, has_operands, copied_file, copy_verdict, other_verdict, verdict_of_fields, verdict, is_end}
+use Rattle.sil_base.specs.Names.{is_word}
+use Rattle.sil_cards.specs.Verdicts.{is_card_byte, is_macro, is_label, has_operands, copied_file, copy_verdict, other_verdict, verdict_of_fields, verdict, is_end}
 
 -- ---- a card that is taken
 
@@ -35,7 +36,7 @@ not_broken rule h = cc
 not_copied : (name : List ℕ) → Copies name ≡ Taken → ⊥
 not_copied name h = cc
 
-copy_not_taken : (deeper : ℕ) (label : List ℕ) (file : Option (List ℕ)) → copy_verdict deeper label file ≡ Taken → ⊥
+pub copy_not_taken : (deeper : ℕ) (label : List ℕ) (file : Option (List ℕ)) → copy_verdict deeper label file ≡ Taken → ⊥
 copy_not_taken deeper label None h = not_broken 4 h
 copy_not_taken deeper label (Some name) h =
     not_copied name
@@ -306,3 +307,13 @@ pub goes_line : (r s : Reader) (deeper size : ℕ) (text : List ℕ) (v : Verdic
 goes_line r s deeper size text v h g last =
     let not_last = goes_either (is_full s.number s.bytes) (is_end text) last in
     keeps_going v s (going_line r s deeper size text v h g not_last.0 not_last.1)
+
+-- ---- cards that are taken
+
+-- what is taken within the limits is taken by the rules of a card alone
+pub taken_within : (full : Bool) (v : Verdict) → limited full v ≡ Taken → v ≡ Taken
+taken_within true Skipped h = absurd (cc)
+taken_within true (Broken rule) h = absurd (cc)
+taken_within true (Copies name) h = absurd (cc)
+taken_within true Taken h = absurd (cc)
+taken_within false v h = h

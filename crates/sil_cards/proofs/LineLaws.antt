@@ -8,7 +8,7 @@ use Rattle.std.proofs.Math.Seq.{get_or-append_seam, take-append_seam}
 use Rattle.std.proofs.lemmas.Bool.{eqb-true}
 use Rattle.std.proofs.lemmas.List.{length_push}
 use Rattle.sil_cards.proofs.Booleans.{both, and_true}
-use Rattle.sil_cards.specs.Lines.{lines_of, onto_lines, without_end}
+use Rattle.sil_base.specs.Lines.{lines_of, onto_lines, without_end}
 
 -- ---- the lines by the parts between LFs
 

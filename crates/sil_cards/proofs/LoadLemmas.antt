@@ -4,21 +4,24 @@ use Rattle.std.specs.Prelude.{nat_le, IsSomeAnd}
 use Rattle.std.specs.FinMap.{get}
 use Rattle.std.proofs.lemmas.Bool.Decides.{nat_tests}
 use Rattle.sil_base.specs.Files.{Files}
+use Rattle.sil_base.specs.Loads.{stopping}
+use Rattle.sil_base.specs.declared.limits.TheConstants.{MAX_FILE_BYTES}
+use Rattle.sil_base.specs.declared.loading.LoadStop.TheVariants as load
 use Rattle.sil_base.specs.declared.line.Fault.{Fault}
 use Rattle.sil_cards.specs.declared.stop.CardStop.{CardStop}
 use Rattle.sil_cards.specs.declared.stop.CardStop.TheVariants as stop
 use Rattle.sil_cards.specs.declared.verdict.Verdict.{Verdict}
 use Rattle.sil_cards.specs.declared.verdict.Verdict.TheVariants.{Skipped, Broken, Copies, Taken}
 use Rattle.sil_cards.specs.CardParts.{CardParts}
-use Rattle.sil_cards.specs.Lines.{lines_of, without_end}
+use Rattle.sil_base.specs.Lines.{lines_of, without_end}
 use Rattle.sil_cards.specs.Verdicts.{verdict, is_end}
-use Rattle.sil_cards.specs.Reads.{Read, Opened, Refused, ReadLine, copied, lines_read, text_of, text_read, file_read}
+use Rattle.sil_cards.specs.Reads.{Read, Opened, Refused, ReadLine, copied, lines_read, card_stop, text_of, text_read, file_read}
 use Rattle.sil_cards.specs.Readings.{Reading, nothing, is_full, limited, with_line, reading, reading_of, answer_of, cards_of, StopsAt}
 
 -- a stop that comes at a file
 abbrev IsWhy : Files → List ℕ → CardStop → Type 0
 IsWhy files name (stop.Missing other) = (other ≡ name) × (get files name ≡ None)
-IsWhy files name (stop.TooLong other) = (other ≡ name) × IsSomeAnd (get files name) (λ text. 2097152 < length text)
+IsWhy files name (stop.TooLong other) = (other ≡ name) × IsSomeAnd (get files name) (λ text. MAX_FILE_BYTES < length text)
 IsWhy files name (stop.Faults faults) = ⊥
 IsWhy files name (stop.Failed other) = ⊥
 IsWhy files name stop.Memory = ⊥
@@ -48,16 +51,16 @@ why_lines files copy deeper (line ∷ lines) h =
     let v = verdict deeper (without_end line) in
     why_append files (copied copy v) (lines_read copy deeper lines) (why_copied files copy v h) (why_lines files copy deeper lines h)
 
-too_long : (n : ℕ) → nat_le n 2097152 ≡ false → 2097152 < n
+too_long : (n : ℕ) → nat_le n MAX_FILE_BYTES ≡ false → MAX_FILE_BYTES < n
 too_long n h = grind (arith, nat_tests)
 
-why_either : (b : Bool) (files : Files) (copy : List ℕ → List Read) (deeper : ℕ) (name text : List ℕ) → nat_le (length text) 2097152 ≡ b → get files name ≡ Some text → ((name : List ℕ) → AreWhy files (copy name)) → AreWhy files (text_read copy deeper name (cond b (Ok text) (Err (stop.TooLong name))))
+why_either : (b : Bool) (files : Files) (copy : List ℕ → List Read) (deeper : ℕ) (name text : List ℕ) → nat_le (length text) MAX_FILE_BYTES ≡ b → get files name ≡ Some text → ((name : List ℕ) → AreWhy files (copy name)) → AreWhy files (text_read copy deeper name (stopping card_stop (cond b (Ok text) (Err (load.TooLong name)))))
 why_either true files copy deeper name text fits is h = why_lines files copy deeper (lines_of text) h
 why_either false files copy deeper name text fits is h = ((refl, rw is (too_long (length text) fits)), tt)
 
 why_text : (files : Files) (copy : List ℕ → List Read) (deeper : ℕ) (name : List ℕ) (o : Option (List ℕ)) → get files name ≡ o → ((name : List ℕ) → AreWhy files (copy name)) → AreWhy files (text_read copy deeper name (text_of name o))
 why_text files copy deeper name None is h = ((refl, is), tt)
-why_text files copy deeper name (Some text) is h = why_either (nat_le (length text) 2097152) files copy deeper name text refl is h
+why_text files copy deeper name (Some text) is h = why_either (nat_le (length text) MAX_FILE_BYTES) files copy deeper name text refl is h
 
 why_file : (files : Files) (levels : ℕ) (name : List ℕ) → AreWhy files (file_read files levels name)
 why_file files zero name = tt

@@ -1,8 +1,8 @@
-pub mod Lines
 pub mod Fields
 pub mod Held
 pub mod Verdicts
 pub mod CardParts
+pub mod Contents
 pub mod Cards
 pub mod Reads
 pub mod Readings

@@ -1,15 +1,18 @@
 -- The cards of a source and of the files that it copies, and the rules that its lines break.
 use Rattle.std.specs.Prelude.{◌≡◌, ℕ, ◌+◌, ◌<◌, nat_lt, Bool, true, false, ◌||◌, List, [], ◌∷◌, ◌++◌, length, Option, Some, None, IsSomeAnd, if◌then◌else◌}
+use Rattle.sil_base.specs.declared.limits.TheConstants.{MAX_CARDS, MAX_FILE_BYTES}
 use Rattle.std.specs.declared.result.Result.{Result}
 use Rattle.std.specs.declared.result.Result.TheVariants.{Ok, Err}
 use Rattle.std.specs.FinMap.{get}
 use Rattle.sil_base.specs.Files.{Files}
 use Rattle.sil_base.specs.declared.line.Fault.{Fault}
+use Rattle.sil_base.specs.declared.line.TheConstants.{SOURCE_FILE}
+use Rattle.sil_base.specs.Faults.{fault_at}
 use Rattle.sil_cards.specs.declared.stop.CardStop.{CardStop}
 use Rattle.sil_cards.specs.declared.stop.CardStop.TheVariants as stop
 use Rattle.sil_cards.specs.declared.verdict.Verdict.{Verdict}
 use Rattle.sil_cards.specs.declared.verdict.Verdict.TheVariants.{Broken, Taken}
-use Rattle.sil_cards.specs.Lines.{without_end}
+use Rattle.sil_base.specs.Lines.{without_end}
 use Rattle.sil_cards.specs.Verdicts.{verdict, is_end}
 use Rattle.sil_cards.specs.CardParts.{CardParts}
 use Rattle.sil_cards.specs.Cards.{card_at}
@@ -27,7 +30,7 @@ nothing = record { loads = []; refused = None; cards = []; faults = [] }
 
 -- with so many cards and bytes a limit is passed
 abbrev pub is_full : ℕ → ℕ → Bool
-is_full count bytes = nat_lt 40000 count || nat_lt 2097152 bytes
+is_full count bytes = nat_lt MAX_CARDS count || nat_lt MAX_FILE_BYTES bytes
 
 -- a card with which a limit is passed breaks C7, if no other rule
 abbrev pub limited : Bool → Verdict → Verdict
@@ -36,11 +39,11 @@ limited true _ = Broken 7
 limited false verdict = verdict
 
 -- the fault of a line of the source
-abbrev pub fault_at : ℕ → ℕ → Fault
-fault_at number rule = record { line = record { file = 0; number = number }; code = record { letter = 67; rule = rule } }
+abbrev pub card_fault : ℕ → ℕ → Fault
+card_fault number rule = fault_at SOURCE_FILE 67 number rule
 
 abbrev pub given_faults : ℕ → Verdict → List Fault
-given_faults number (Broken rule) = fault_at number rule ∷ []
+given_faults number (Broken rule) = card_fault number rule ∷ []
 given_faults number _ = []
 
 abbrev pub given_cards : ℕ → List ℕ → Verdict → List CardParts
@@ -54,7 +57,7 @@ with_line number text verdict rest =
 
 -- what is read after so many cards and bytes: to END, to a card that passes a limit, or to a file that can't be read
 abbrev pub reading : ℕ → ℕ → List Read → Reading
-reading count bytes [] = record nothing { faults = fault_at (count + 1) 8 ∷ [] }
+reading count bytes [] = record nothing { faults = card_fault (count + 1) 8 ∷ [] }
 reading count bytes (Opened name ∷ reads) =
     let rest = reading count bytes reads in record rest { loads = name ∷ rest.loads }
 reading count bytes (Refused name stop ∷ reads) = record nothing { loads = name ∷ []; refused = Some stop }
@@ -90,7 +93,7 @@ faults_of files name = (reading_of files name).faults
 abbrev pub StopsAt : Files → List (List ℕ) → CardStop → Type 0
 StopsAt files loads (stop.Missing name) = (front : List (List ℕ)) × (loads ≡ front ++ name ∷ []) × (get files name ≡ None)
 StopsAt files loads (stop.TooLong name) =
-    (front : List (List ℕ)) × (loads ≡ front ++ name ∷ []) × IsSomeAnd (get files name) (λ text. 2097152 < length text)
+    (front : List (List ℕ)) × (loads ≡ front ++ name ∷ []) × IsSomeAnd (get files name) (λ text. MAX_FILE_BYTES < length text)
 StopsAt files loads (stop.Faults faults) = Unit {0}
 StopsAt files loads (stop.Failed name) = Unit {0}
 StopsAt files loads stop.Memory = Unit {0}

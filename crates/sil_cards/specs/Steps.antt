@@ -1,5 +1,6 @@
 -- What the code has read so far, against the reading.
 use Rattle.std.specs.Prelude.{◌≡◌, ℕ, ◌≤◌, Bool, true, false, List, [], ◌++◌, length, codes, All, None}
+use Rattle.sil_base.specs.declared.limits.TheConstants.{MAX_CARDS, MAX_FILE_BYTES}
 use Rattle.std.specs.Str.{IsAscii}
 use Rattle.std.specs.List.Sorted.{IsStrictlyIncreasing}
 use Rattle.std.specs.declared.result.Result.{Result}
@@ -14,8 +15,9 @@ use Rattle.sil_cards.specs.declared.stop.CardStop.TheVariants as stop
 use Rattle.sil_cards.specs.declared.verdict.Verdict.{Verdict}
 use Rattle.sil_cards.specs.declared.verdict.Verdict.TheVariants.{Copies}
 use Rattle.sil_cards.specs.CardParts.{CardParts}
-use Rattle.sil_cards.specs.Lines.{without_end}
-use Rattle.sil_cards.specs.Verdicts.{is_word, verdict}
+use Rattle.sil_base.specs.Lines.{without_end}
+use Rattle.sil_base.specs.Names.{is_word}
+use Rattle.sil_cards.specs.Verdicts.{verdict}
 use Rattle.sil_cards.specs.Cards.{IsGood, AreCards, numbers_of}
 use Rattle.sil_cards.specs.Reads.{Read}
 use Rattle.sil_cards.specs.Readings.{reading, answer_of}
@@ -64,13 +66,13 @@ pub record AreFirst (cards : List CardParts) (number : ℕ) : Type 0 where
 -- what is read, before END and within the limits
 pub record IsGoing (r : Reader) : Type 0 where
   pub first : AreFirst r.cards.items r.number
-  pub cards_left : r.number ≤ 40000
-  pub bytes_left : r.bytes ≤ 2097152
+  pub cards_left : r.number ≤ MAX_CARDS
+  pub bytes_left : r.bytes ≤ MAX_FILE_BYTES
 
 -- what is read after END or past a limit
 pub record HasEnded (r : Reader) : Type 0 where
   pub cards : r.faults.items ≡ [] → AreCards r.cards.items
-  pub few : length r.cards.items ≤ 40000
+  pub few : length r.cards.items ≤ MAX_CARDS
 
 abbrev pub FlowKeeps : Flow → Reader → Type 0
 FlowKeeps flow.Goes r = IsGoing r

@@ -1,21 +1,15 @@
 -- What a card is, by the rules that hold of a card alone.
-use Rattle.std.specs.Prelude.{ℕ, ◌==◌, nat_lt, nat_le, Bool, true, false, not, ◌&&◌, ◌||◌, List, [], ◌∷◌, length, codes, Option, Some, None, is_some, option_and_then, nat_eq, if◌then◌else◌}
+use Rattle.std.specs.Prelude.{ℕ, ◌==◌, nat_lt, nat_le, Bool, true, false, not, ◌&&◌, ◌||◌, List, [], ◌∷◌, length, codes, Option, Some, None, is_some, option_and_then, if◌then◌else◌}
 use Rattle.std.specs.List.{list_all}
-use Rattle.std.specs.Cmp.Lexicographic.{pointwise}
 use Rattle.sil_macros.specs.Macros.{with_name}
-use Rattle.sil_operands.specs.Names.{is_name}
+use Rattle.sil_base.specs.Names.{is_name, is_word}
 use Rattle.sil_operands.specs.Reading.{operands_of}
 use Rattle.sil_operands.specs.declared.operand.Operand.{Operand}
 use Rattle.sil_operands.specs.declared.operand.Operand.TheVariants.{Null, Expr, List as ListOperand, Text}
-use Rattle.sil_operands.specs.declared.expr.Term.{Term}
-use Rattle.sil_operands.specs.declared.expr.Factor.{Factor}
-use Rattle.sil_operands.specs.declared.expr.Factor.TheVariants.{Name, Number}
+use Rattle.sil_operands.specs.Simple.{named_alone, is_null}
 use Rattle.sil_cards.specs.declared.verdict.Verdict.{Verdict}
 use Rattle.sil_cards.specs.declared.verdict.Verdict.TheVariants.{Skipped, Broken, Copies, Taken}
 use Rattle.sil_cards.specs.Fields.{Fields, fields_of, is_comment}
-
-abbrev pub is_word : List ℕ → List ℕ → Bool
-is_word text word = pointwise nat_eq text word
 
 -- a tab, or a byte from 32 to 126
 abbrev pub is_card_byte : ℕ → Bool
@@ -34,19 +28,6 @@ abbrev pub is_label : List ℕ → Bool
 is_label [] = true
 is_label (c ∷ label) = is_name (c ∷ label)
 
--- the name, where a list of factors is just one
-abbrev pub one_name : List Factor → Option (List ℕ)
-one_name [] = None
-one_name (Name name ∷ []) = Some name
-one_name (Name name ∷ next ∷ factors) = None
-one_name (Number n ∷ factors) = None
-
--- the name, where an expression is just one without a minus
-abbrev pub named_alone : List Term → Option (List ℕ)
-named_alone [] = None
-named_alone (term ∷ []) = if term.minus then None else one_name term.factors
-named_alone (term ∷ next ∷ terms) = None
-
 -- a text that isn't empty
 abbrev pub some_text : List ℕ → Option (List ℕ)
 some_text [] = None
@@ -58,12 +39,6 @@ file_of Null = None
 file_of (Expr terms) = named_alone terms
 file_of (ListOperand items) = None
 file_of (Text text) = some_text text
-
-abbrev pub is_null : Operand → Bool
-is_null Null = true
-is_null (Expr terms) = false
-is_null (ListOperand items) = false
-is_null (Text text) = false
 
 -- the file that the operands of COPY name: one operand and none but null ones after it
 abbrev pub file_named : List Operand → Option (List ℕ)

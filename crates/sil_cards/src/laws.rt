@@ -2,7 +2,7 @@
 ghost use Rattle.std.specs.Prelude.{◌≡◌, ℕ, List, map};
 ghost use Rattle.std.specs.List.{concat};
 ghost use Rattle.std.specs.Str.Lines.{lines};
-ghost use Rattle.sil_cards.specs.Lines.{lines_of, without_end};
+ghost use Rattle.sil_base.specs.Lines.{lines_of, without_end};
 
 /// Lines without their ends are those that `lines` of a text gives; with their ends they are the
 /// whole text.

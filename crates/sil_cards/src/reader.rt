@@ -1,23 +1,24 @@
 // What is read so far, line by line.
 ghost use Rattle.std.specs.Prelude.{◌≡◌, ◌+◌, ◌≤◌, ◌++◌, ◌∷◌, ◌||◌, List, [], length, IfOk, IfErr, OnOk, MatchResult, Ok, Err, false};
-ghost use Rattle.sil_cards.specs.Lines.{without_end};
+ghost use Rattle.sil_base.specs.Lines.{without_end};
 ghost use Rattle.sil_cards.specs.Cards.{AreCards};
 ghost use Rattle.sil_cards.specs.Verdicts.{is_end};
 ghost use Rattle.sil_cards.specs.Reads.{Read, ReadLine};
-ghost use Rattle.sil_cards.specs.Readings.{is_full, limited, fault_at, given_cards, given_faults};
+ghost use Rattle.sil_cards.specs.Readings.{is_full, limited, card_fault, given_cards, given_faults};
+ghost use Rattle.sil_cards.specs.Fields.{fields_of};
+ghost use Rattle.sil_cards.specs.Contents.{AreContents};
 ghost use Rattle.sil_cards.specs.Steps.{going_on, ended, after_step, after_flow, is_free, FlowKeeps, IsFaults, NoLoad, step_of, StepCopies, StepKeeps, IsGoing, HasEnded};
 
 use crate::card::Card;
 use crate::fields::fields_of;
-use crate::lines::without_end;
 use crate::stop::CardStop;
-use crate::verdict::{Verdict, is_end, judge};
-use sil_base::{Fault, FaultCode, Items, Line, Record};
+use crate::verdict::{Judged, Verdict, is_end, judge};
+use sil_base::{
+    Fault, Items, MAX_CARDS, MAX_FILE_BYTES, Record, SOURCE_FILE, fault_at, without_end,
+};
+use sil_macros::Macro;
+use sil_operands::Operands;
 use std::alloc::{AllocError, Global};
-
-const MAX_CARDS: u32 = 40_000;
-
-const MAX_BYTES: u64 = 2_097_152;
 
 /// The cards and faults so far, and the numbers of lines and of their bytes.
 #[derive(Drop)]
@@ -44,13 +45,10 @@ pub(crate) enum Step {
     Ends,
 }
 
-fn fault_at(number: u32, rule: u8) -> Fault
-    ensures { result ≡ fault_at number rule }
+fn card_fault(number: u32, rule: u8) -> Fault
+    ensures { result ≡ card_fault number rule }
 {
-    Fault {
-        line: Line { file: 0, number },
-        code: FaultCode { letter: b'C', rule },
-    }
+    fault_at(SOURCE_FILE, b'C', number, rule)
 }
 
 /// A card with which a limit may be passed.
@@ -68,7 +66,7 @@ fn limited(full: bool, verdict: Verdict) -> Verdict
 fn is_full(number: u32, bytes: u64) -> bool
     ensures { result ≡ is_full number bytes }
 {
-    number > MAX_CARDS || bytes > MAX_BYTES
+    number > MAX_CARDS || bytes > MAX_FILE_BYTES
 }
 
 /// Whether the reading ends with a card.
@@ -102,7 +100,16 @@ impl Reader {
     }
 
     /// Notes the fault of the last line, or takes its card.
-    fn note(&mut self, alloc: Global, text: &[u8], verdict: &Verdict) -> Result<(), AllocError>
+    fn note(
+        &mut self,
+        alloc: Global,
+        text: &[u8],
+        verdict: &Verdict,
+        name: Macro,
+        operands: Operands,
+    ) -> Result<(), AllocError>
+        requires { verdict.now ≡ Verdict.Taken
+            → AreContents name operands (fields_of text.now).operation (fields_of text.now).operands }
         ensures cards { OnOk result (self.new.cards.items
             ≡ self.old.cards.items ++ given_cards self.old.number text.now verdict.now) }
         ensures faults { OnOk result (self.new.faults.items
@@ -110,11 +117,11 @@ impl Reader {
         ensures numbers { (self.new.number ≡ self.old.number) × (self.new.bytes ≡ self.old.bytes) }
     {
         match verdict {
-            Verdict::Broken(rule) => self.faults.push(fault_at(self.number, *rule))?,
+            Verdict::Broken(rule) => self.faults.push(card_fault(self.number, *rule))?,
             Verdict::Taken => {
-                let f = fields_of(text);
-                let card = Card::of(alloc, self.number, f.label, f.operation, f.operands)?;
-                self.cards.push(card)?;
+                let fields = fields_of(text);
+                self.cards
+                    .push(Card::of(alloc, self.number, &fields, name, operands)?)?;
             }
             Verdict::Skipped | Verdict::Copies(_) => {}
         }
@@ -124,7 +131,7 @@ impl Reader {
     /// Reads a line, with its end, of a file where files may be so many levels deeper.
     pub fn take_line(&mut self, alloc: Global, line: &[u8], deeper: u8) -> Result<Step, AllocError>
         requires going { IsGoing self.old }
-        requires short { length line.now ≤ 2097152 }
+        requires short { length line.now ≤ MAX_FILE_BYTES }
         ensures read { IfOk result (λ step. (rest : List Read)
             → going_on self.old (ReadLine deeper line.now ∷ rest) ≡ after_step step self.new rest) }
         ensures copies { IfOk result (λ step. StepCopies step deeper line.now) }
@@ -134,8 +141,13 @@ impl Reader {
         self.bytes += line.len() as u64;
         let full = is_full(self.number, self.bytes);
         let text = without_end(line);
-        let verdict = limited(full, judge(alloc, text, deeper)?);
-        self.note(alloc, text, &verdict)?;
+        let Judged {
+            verdict,
+            name,
+            operands,
+        } = judge(alloc, text, deeper)?;
+        let verdict = limited(full, verdict);
+        self.note(alloc, text, &verdict, name, operands)?;
         if is_last(full, text) {
             return Ok(Step::Ends);
         }
@@ -148,7 +160,7 @@ impl Reader {
         ensures ended { OnOk result (going_on self.old [] ≡ ended self.new) }
         ensures keeps { OnOk result (HasEnded self.new) }
     {
-        self.faults.push(fault_at(self.number + 1, 8))?;
+        self.faults.push(card_fault(self.number + 1, 8))?;
         Ok(())
     }
 
@@ -157,7 +169,7 @@ impl Reader {
         requires { HasEnded self }
         ensures answer { MatchResult result (λ v. ended self ≡ Ok v.items) (λ e. ended self ≡ Err e) }
         ensures good { IfOk result (λ v. AreCards v.items) }
-        ensures few { IfOk result (λ v. length v.items ≤ 40000) }
+        ensures few { IfOk result (λ v. length v.items ≤ MAX_CARDS) }
         ensures faults { IfErr result IsFaults }
     {
         let Reader { cards, faults, .. } = self;
@@ -174,7 +186,7 @@ impl Reader {
         ensures answer { MatchResult result (λ v. after_flow flow self [] ≡ Ok v.items)
             (λ e. is_free e ≡ false → after_flow flow self [] ≡ Err e) }
         ensures good { IfOk result (λ v. AreCards v.items) }
-        ensures few { IfOk result (λ v. length v.items ≤ 40000) }
+        ensures few { IfOk result (λ v. length v.items ≤ MAX_CARDS) }
         ensures faults { IfErr result NoLoad }
     {
         match flow {

@@ -8,14 +8,11 @@ ghost use Rattle.sil_cards.specs.Readings.{cards_of, loads_of, StopsAt};
 ghost use Rattle.sil_cards.specs.Steps.{going_on, after_flow, FlowKeeps, IsGoing, is_free, StopCause};
 
 use crate::card::Card;
-use crate::lines::cut_line;
 use crate::reader::{Flow, Reader, Step};
 use crate::stop::CardStop;
-use sil_base::{Load, Record, Store};
+use sil_base::{MAX_CARDS, MAX_FILE_BYTES, Record, Store, cut_line, load_file};
 use std::alloc::Global;
 use std::str;
-
-const MAX_FILE: u64 = 2_097_152;
 
 /// How many levels of files a source may copy.
 const MAX_DEPTH: u8 = 8;
@@ -23,21 +20,14 @@ const MAX_DEPTH: u8 = 8;
 /// The bytes of a file.
 fn load<S: Store>(alloc: Global, store: &mut S, name: &str) -> Result<Vec<u8>, CardStop>
     ensures kept { S.files store.new ≡ S.files store.old }
-    ensures within { IfOk result (λ text. length text.items ≤ 2097152) }
+    ensures within { IfOk result (λ text. length text.items ≤ MAX_FILE_BYTES) }
     ensures loaded { IfSome (S.files store.old) (λ files. MatchResult result
         (λ text. text_at files name.now ≡ Ok text.items)
         (λ e. is_free e ≡ false → text_at files name.now ≡ Err e)) }
     ensures count { S.faults store.old ≤ S.faults store.new }
     ensures cause { IfErr result (λ e. StopCause e (S.faults store.old) (S.faults store.new)) }
 {
-    let mut text = Vec::new(alloc);
-    match store.load(name, MAX_FILE, &mut text) {
-        Load::Ok => Ok(text),
-        Load::Missing => Err(CardStop::Missing(Record::of(alloc, name.as_bytes())?)),
-        Load::TooLong => Err(CardStop::TooLong(Record::of(alloc, name.as_bytes())?)),
-        Load::Failed => Err(CardStop::Failed(Record::of(alloc, name.as_bytes())?)),
-        Load::Memory => Err(CardStop::Memory),
-    }
+    Ok(load_file(alloc, store, name, MAX_FILE_BYTES)?)
 }
 
 /// The name of a file, which is in ASCII.
@@ -99,7 +89,7 @@ pub fn read_cards<S: Store>(alloc: Global, store: &mut S, name: &str) -> Result<
     ensures last { IfSome (S.files store.old) (λ files. IfErr result
         (λ e. is_free e ≡ false → StopsAt files (loads_of files name.now) e)) }
     ensures good { IfOk result (λ cards. AreCards cards.items) }
-    ensures few { IfOk result (λ cards. length cards.items ≤ 40000) }
+    ensures few { IfOk result (λ cards. length cards.items ≤ MAX_CARDS) }
     ensures kept { S.files store.new ≡ S.files store.old }
     ensures count { S.faults store.old ≤ S.faults store.new }
     ensures cause { IfErr result (λ e. StopCause e (S.faults store.old) (S.faults store.new)) }

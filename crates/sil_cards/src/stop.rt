@@ -1,7 +1,7 @@
 // Why no cards are read.
 ghost use Rattle.std.specs.Prelude.{◌≡◌};
 
-use sil_base::{Fault, Items, Record};
+use sil_base::{Fault, Items, LoadStop, Record};
 use std::alloc::{AllocError, AllocFailed};
 
 /// Why no cards are read.
@@ -11,7 +11,7 @@ pub enum CardStop {
     Faults(Items<Fault>),
     /// No file has this name.
     Missing(Record),
-    /// The file of this name has more than 2,097,152 bytes.
+    /// The file of this name is longer than a file may be.
     TooLong(Record),
     /// The store failed at the file of this name.
     Failed(Record),
@@ -36,5 +36,20 @@ impl<T: Drop> From<AllocFailed<T>> for CardStop {
 
     fn from(_error: AllocFailed<T>) -> CardStop {
         CardStop::Memory
+    }
+}
+
+impl From<LoadStop> for CardStop {
+    ghost use Rattle.sil_cards.specs.Reads.{card_stop};
+
+    ghost from_gives = { λ stop e. e ≡ card_stop stop };
+
+    fn from(stop: LoadStop) -> CardStop {
+        match stop {
+            LoadStop::Missing(name) => CardStop::Missing(name),
+            LoadStop::TooLong(name) => CardStop::TooLong(name),
+            LoadStop::Failed(name) => CardStop::Failed(name),
+            LoadStop::Memory => CardStop::Memory,
+        }
     }
 }

@@ -1,13 +1,17 @@
 // What a card is, by the rules that hold of a card alone.
-ghost use Rattle.std.specs.Prelude.{◌≡◌, IfOk, option_map};
+ghost use Rattle.std.specs.Prelude.{◌≡◌, [], IfOk, codes, option_map, option_and_then, unwrap_or, if◌then◌else◌};
 ghost use Rattle.std.specs.List.{list_all};
-ghost use Rattle.sil_cards.specs.Verdicts.{is_word, is_card_byte, is_macro, has_operands, is_label, one_name, named_alone, some_text, file_of, is_null, file_named, copied_file, copy_verdict, other_verdict, verdict_of_fields, verdict, is_end};
+ghost use Rattle.sil_base.specs.Names.{is_word};
+ghost use Rattle.sil_cards.specs.Verdicts.{is_card_byte, is_label, some_text, file_of, file_named, copy_verdict, other_verdict, verdict_of_fields, verdict, is_end};
+ghost use Rattle.sil_operands.specs.Reading.{operands_of};
+ghost use Rattle.sil_cards.specs.Fields.{fields_of};
 ghost use Rattle.sil_cards.specs.Held.{fields_held};
+ghost use Rattle.sil_cards.specs.Contents.{AreContents};
 
 use crate::fields::{Fields, fields_of, is_comment};
-use sil_base::Record;
-use sil_macros::macro_of;
-use sil_operands::{Factor, Operand, OperandFault, Operands, Term, is_name, read_operands};
+use sil_base::{Record, is_name};
+use sil_macros::{Macro, macro_of};
+use sil_operands::{Operand, OperandFault, Operands, are_null, named_alone, read_operands};
 use std::alloc::{AllocError, Global};
 
 const MAX_CARD: usize = 256;
@@ -25,6 +29,27 @@ pub(crate) enum Verdict {
     Taken,
 }
 
+/// What a card is, and the macro and the operands of one that is taken.
+#[derive(Drop)]
+pub(crate) struct Judged {
+    pub verdict: Verdict,
+    pub name: Macro,
+    pub operands: Operands,
+}
+
+impl Judged {
+    /// A card that isn't taken.
+    fn untaken(alloc: Global, verdict: Verdict) -> Judged
+        ensures { result.verdict ≡ verdict }
+    {
+        Judged {
+            verdict,
+            name: Macro::End,
+            operands: Operands::none(alloc),
+        }
+    }
+}
+
 fn is_card_byte(byte: u8) -> bool
     ensures { result ≡ is_card_byte byte }
 {
@@ -37,37 +62,10 @@ fn are_card_bytes(text: &[u8]) -> bool
     text.iter().all(|c| is_card_byte(*c))
 }
 
-#[tactic(auto, unfolding(crate::specs::Verdicts::is_macro))]
-fn is_macro(operation: &[u8]) -> bool
-    ensures { result ≡ is_macro operation.now }
-{
-    macro_of(operation).is_some()
-}
-
 fn is_label(label: &[u8]) -> bool
     ensures { result ≡ is_label label.now }
 {
     label.is_empty() || is_name(label)
-}
-
-/// The name, where factors are just one.
-fn one_name(factors: &[Factor]) -> Option<&[u8]>
-    ensures { option_map (λ name. name.now) result ≡ one_name factors.now }
-{
-    match factors {
-        [Factor::Name(name)] => Some(name.bytes()),
-        _ => None,
-    }
-}
-
-/// The name, where an expression is just one without a minus.
-fn named_alone(terms: &[Term]) -> Option<&[u8]>
-    ensures { option_map (λ name. name.now) result ≡ named_alone terms.now }
-{
-    match terms {
-        [term] if !term.minus => one_name(term.factors.items()),
-        _ => None,
-    }
 }
 
 fn some_text(text: &[u8]) -> Option<&[u8]>
@@ -87,18 +85,6 @@ fn file_of(operand: &Operand) -> Option<&[u8]>
     }
 }
 
-fn is_null(operand: &Operand) -> bool
-    ensures { result ≡ is_null operand.now }
-{
-    matches!(operand, Operand::Null)
-}
-
-fn are_null(operands: &[Operand]) -> bool
-    ensures { result ≡ list_all is_null operands.now }
-{
-    operands.iter().all(|operand| is_null(operand))
-}
-
 /// The file that the operands of COPY name.
 fn file_named(operands: &[Operand]) -> Option<&[u8]>
     ensures { option_map (λ name. name.now) result ≡ file_named operands.now }
@@ -109,15 +95,12 @@ fn file_named(operands: &[Operand]) -> Option<&[u8]>
     }
 }
 
-/// The file that the operand field of COPY names.
-#[tactic(auto, unfolding(crate::specs::Verdicts::copied_file))]
-fn copied_file(alloc: Global, field: &[u8]) -> Result<Option<Record>, AllocError>
-    ensures { IfOk result (λ file. file ≡ copied_file field.now) }
+/// The file that the operands of COPY name, where they are in the grammar.
+fn copied_file(alloc: Global, operands: &Option<Operands>) -> Result<Option<Record>, AllocError>
+    ensures { IfOk result (λ file. file ≡ option_and_then file_named operands.now) }
 {
-    let operands = match read_operands(alloc, field) {
-        Ok(operands) => operands,
-        Err(OperandFault::Bad) => return Ok(None),
-        Err(OperandFault::Memory) => return Err(AllocError),
+    let Some(operands) = operands else {
+        return Ok(None);
     };
     match file_named(operands.items()) {
         Some(name) => Ok(Some(Record::of(alloc, name)?)),
@@ -125,15 +108,24 @@ fn copied_file(alloc: Global, field: &[u8]) -> Result<Option<Record>, AllocError
     }
 }
 
-/// Whether a field is in the grammar of operands.
-#[tactic(auto, unfolding(crate::specs::Verdicts::has_operands))]
-fn has_operands(alloc: Global, field: &[u8]) -> Result<bool, AllocError>
-    ensures { IfOk result (λ b. b ≡ has_operands field.now) }
+/// The operands of a field, where it is in the grammar.
+fn operands_in(alloc: Global, field: &[u8]) -> Result<Option<Operands>, AllocError>
+    ensures { IfOk result (λ operands. operands ≡ operands_of field.now) }
 {
     match read_operands(alloc, field) {
-        Ok(_) => Ok(true),
-        Err(OperandFault::Bad) => Ok(false),
+        Ok(operands) => Ok(Some(operands)),
+        Err(OperandFault::Bad) => Ok(None),
         Err(OperandFault::Memory) => Err(AllocError),
+    }
+}
+
+/// The operands of a card, by what was read of its field; END has none.
+fn operands_of_card(alloc: Global, operation: &[u8], read: Option<Operands>) -> Operands
+    ensures { result ≡ (if is_word operation.now (codes "END") then [] else unwrap_or read []) }
+{
+    match read {
+        Some(operands) if operation != b"END".as_slice() => operands,
+        _ => Operands::none(alloc),
     }
 }
 
@@ -168,33 +160,44 @@ fn other_verdict(f: &Fields<'_>, fits: bool) -> Verdict
     }
 }
 
-fn verdict_of_fields(alloc: Global, f: &Fields<'_>, deeper: u8) -> Result<Verdict, AllocError>
-    ensures { IfOk result (λ v. v ≡ verdict_of_fields deeper (fields_held f.now)) }
+#[tactic(auto, unfolding(crate::specs::Verdicts::is_macro, crate::specs::Verdicts::has_operands, crate::specs::Verdicts::copied_file, crate::specs::Contents::operation_of, crate::specs::Contents::operands_at))]
+fn judge_fields(alloc: Global, f: &Fields<'_>, deeper: u8) -> Result<Judged, AllocError>
+    ensures verdict { IfOk result (λ j. j.verdict ≡ verdict_of_fields deeper (fields_held f.now)) }
+    ensures contents { IfOk result (λ j. j.verdict ≡ Verdict.Taken
+        → AreContents j.name j.operands f.now.operation.now f.now.operands.now) }
 {
-    if !is_macro(f.operation) {
-        return Ok(Verdict::Broken(3));
-    }
+    let Some(name) = macro_of(f.operation) else {
+        return Ok(Judged::untaken(alloc, Verdict::Broken(3)));
+    };
+    let read = operands_in(alloc, f.operands)?;
     if f.operation == b"COPY".as_slice() {
-        return Ok(copy_verdict(deeper, f.label, copied_file(alloc, f.operands)?));
+        let file = copied_file(alloc, &read)?;
+        return Ok(Judged::untaken(alloc, copy_verdict(deeper, f.label, file)));
     }
-    Ok(other_verdict(f, has_operands(alloc, f.operands)?))
+    Ok(Judged {
+        verdict: other_verdict(f, read.is_some()),
+        name,
+        operands: operands_of_card(alloc, f.operation, read),
+    })
 }
 
 /// What a card is in a file, where files may be so many levels deeper.
 #[tactic(auto, unfolding(crate::specs::Verdicts::verdict))]
-pub(crate) fn judge(alloc: Global, text: &[u8], deeper: u8) -> Result<Verdict, AllocError>
-    ensures { IfOk result (λ v. v ≡ verdict deeper text.now) }
+pub(crate) fn judge(alloc: Global, text: &[u8], deeper: u8) -> Result<Judged, AllocError>
+    ensures verdict { IfOk result (λ j. j.verdict ≡ verdict deeper text.now) }
+    ensures contents { IfOk result (λ j. j.verdict ≡ Verdict.Taken
+        → AreContents j.name j.operands (fields_of text.now).operation (fields_of text.now).operands) }
 {
     if is_comment(text) {
-        return Ok(Verdict::Skipped);
+        return Ok(Judged::untaken(alloc, Verdict::Skipped));
     }
     if text.len() > MAX_CARD {
-        return Ok(Verdict::Broken(1));
+        return Ok(Judged::untaken(alloc, Verdict::Broken(1)));
     }
     if !are_card_bytes(text) {
-        return Ok(Verdict::Broken(2));
+        return Ok(Judged::untaken(alloc, Verdict::Broken(2)));
     }
-    verdict_of_fields(alloc, &fields_of(text), deeper)
+    judge_fields(alloc, &fields_of(text), deeper)
 }
 
 /// Whether a card is END.

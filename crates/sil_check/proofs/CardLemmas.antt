@@ -9,12 +9,14 @@ use Rattle.sil_macros.specs.declared.names.Macro.{Macro}
 use Rattle.sil_macros.specs.declared.names.Macro.TheVariants as macros
 use Rattle.sil_macros.specs.Macros as names
 use Rattle.sil_cards.specs.CardParts.{CardParts}
-use Rattle.sil_cards.specs.Verdicts.{is_word, is_macro}
+use Rattle.sil_base.specs.Names.{is_word}
+use Rattle.sil_cards.specs.Verdicts.{is_macro}
 use Rattle.sil_cards.specs.Cards as cards
 use Rattle.sil_cards.specs.Cards.{IsGood}
 use Rattle.sil_symbols.specs.Parts.{part_of, is_end}
 use Rattle.sil_symbols.specs.Rules as rules
-use Rattle.sil_check.specs.Statements.{operation_of, statements_of}
+use Rattle.sil_cards.specs.Contents.{operation_of}
+use Rattle.sil_check.specs.Statements.{statements_of}
 
 -- ---- macros by their names
 

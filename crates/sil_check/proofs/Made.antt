@@ -2,8 +2,6 @@
 use Rattle.std.proofs.Common.{◌≡◌, ℕ, ◌+◌, ◌<◌, ◌≤◌, suc, Bool, true, false, cond, List, [], ◌∷◌, ◌++◌, length, get_or, drop, Option, Some, None, refl, sym, ap, ◌∙◌, append_assoc, add-one, arith}
 use Rattle.std.specs.Prelude.{option_map, ℤ}
 use Rattle.std.proofs.Math.Seq.{drop-cons}
-use Rattle.std.proofs.lemmas.List.{length-drop}
-use Rattle.layout_params.specs.declared.cell.Cell.{Cell}
 use Rattle.sil_macros.specs.declared.shapes.Place.{Place}
 use Rattle.sil_macros.specs.Rows.{row}
 use Rattle.sil_operands.specs.declared.expr.Term.{Term}
@@ -11,7 +9,7 @@ use Rattle.sil_operands.specs.declared.operand.Operand.{Operand}
 use Rattle.sil_symbols.specs.declared.stmt.Stmt.{Stmt}
 use Rattle.sil_model.specs.declared.program.Arg.{Arg}
 use Rattle.sil_model.specs.declared.program.Statement.{Statement}
-use Rattle.sil_check.specs.Arguments.{and_before, arg_of, args_of}
+use Rattle.sil_check.specs.Arguments.{and_before, arg_of, args_of, first_of, rest_of}
 use Rattle.sil_check.specs.Programs.{machine_statement, machine_statements}
 
 -- the items that are made already stand before those that are made next
@@ -35,23 +33,24 @@ empty (x ∷ xs) h = absurd (omega arith)
 first_left : {A : Type 0} (xs : List A) (i : ℕ) (x : A) → i < length xs → x ≡ get_or xs i x → drop i xs ≡ x ∷ drop (i + 1) xs
 first_left xs i x h is = rw add-one (drop-cons xs i x h ∙ ap (λ y. y ∷ drop (suc i) xs) (sym is))
 
-nothing_left : (size : ℕ) (cells : List Cell) (values : List Term → Option ℤ) (places : List Place) → 1 ≤ length places → args_of size cells values places [] ≡ None
-nothing_left size cells values [] h = absurd (omega arith)
-nothing_left size cells values (place ∷ places) h = refl
-
--- an operand is missing
-pub missing : (size : ℕ) (cells : List Cell) (values : List Term → Option ℤ) (places : List Place) (i : ℕ) (made : List Arg) → i < length places → after made (args_of size cells values (drop i places) []) ≡ None
-missing size cells values places i made h = ap (after made) (nothing_left size cells values (drop i places) (omega (arith, length-drop i places)))
-
 unfit_first : {A : Type 0} (o : Option A) (rest : Option (List A)) → o ≡ None → and_before o rest ≡ None
 unfit_first o rest h = rw h refl
 
 -- an operand is unfit
-pub unfit : (size : ℕ) (cells : List Cell) (values : List Term → Option ℤ) (places : List Place) (i : ℕ) (d : Place) (operand : Operand) (operands : List Operand) (made : List Arg) →
-    i < length places → arg_of size cells values (get_or places i d).kind operand ≡ None → after made (args_of size cells values (drop i places) (operand ∷ operands)) ≡ None
-unfit size cells values places i d operand operands made h none =
-    ap (λ ps. after made (args_of size cells values ps (operand ∷ operands))) (drop-cons places i d h)
-    ∙ ap (after made) (unfit_first (arg_of size cells values (get_or places i d).kind operand) (args_of size cells values (drop (suc i) places) operands) none)
+pub unfit : (values : List Term → Option ℤ) (places : List Place) (i : ℕ) (place : Place) (operands : List Operand) (made : List Arg) →
+    i < length places → place ≡ get_or places i place → arg_of values place (first_of operands) ≡ None → after made (args_of values (drop i places) operands) ≡ None
+unfit values places i place operands made h is none =
+    ap (λ ps. after made (args_of values ps operands)) (first_left places i place h is)
+    ∙ ap (after made) (unfit_first (arg_of values place (first_of operands)) (args_of values (drop (i + 1) places) (rest_of operands)) none)
+
+-- an operand is made
+pub fitted : (values : List Term → Option ℤ) (places : List Place) (i : ℕ) (place : Place) (operands : List Operand) (made : List Arg) (x : Arg) →
+    i < length places → place ≡ get_or places i place → arg_of values place (first_of operands) ≡ Some x →
+    after made (args_of values (drop i places) operands) ≡ after (made ++ x ∷ []) (args_of values (drop (i + 1) places) (rest_of operands))
+fitted values places i place operands made x h is some =
+    ap (λ ps. after made (args_of values ps operands)) (first_left places i place h is)
+    ∙ ap (λ o. after made (and_before o (args_of values (drop (i + 1) places) (rest_of operands)))) some
+    ∙ after_push made x (args_of values (drop (i + 1) places) (rest_of operands))
 
 -- ---- statements
 
@@ -62,17 +61,17 @@ executable_first : (b : Bool) (o : Option Statement) (rest : Option (List Statem
 executable_first b o rest h = rw h refl
 
 -- a statement of the assembly is passed over
-pub passed_over : (size : ℕ) (cells : List Cell) (values : List Term → Option ℤ) (source : List Stmt) (i : ℕ) (s : Stmt) → i < length source → s ≡ get_or source i s → (row s.name).assembly ≡ true →
-    machine_statements size cells values (drop i source) ≡ machine_statements size cells values (drop (i + 1) source)
-passed_over size cells values source i s h is b =
-    ap (machine_statements size cells values) (first_left source i s h is)
-    ∙ assembly_passed (row s.name).assembly (machine_statement size cells values s) (machine_statements size cells values (drop (i + 1) source)) b
+pub passed_over : (values : List Term → Option ℤ) (source : List Stmt) (i : ℕ) (s : Stmt) → i < length source → s ≡ get_or source i s → (row s.name).assembly ≡ true →
+    machine_statements values (drop i source) ≡ machine_statements values (drop (i + 1) source)
+passed_over values source i s h is b =
+    ap (machine_statements values) (first_left source i s h is)
+    ∙ assembly_passed (row s.name).assembly (machine_statement values s) (machine_statements values (drop (i + 1) source)) b
 
 -- an executable statement is made
-pub taken : (size : ℕ) (cells : List Cell) (values : List Term → Option ℤ) (source : List Stmt) (i : ℕ) (s : Stmt) (made : List Statement) (x : Statement) → i < length source → s ≡ get_or source i s → (row s.name).assembly ≡ false → machine_statement size cells values s ≡ Some x →
-    after made (machine_statements size cells values (drop i source)) ≡ after (made ++ x ∷ []) (machine_statements size cells values (drop (i + 1) source))
-taken size cells values source i s made x h is b some =
-    ap (λ ss. after made (machine_statements size cells values ss)) (first_left source i s h is)
-    ∙ ap (after made) (executable_first (row s.name).assembly (machine_statement size cells values s) (machine_statements size cells values (drop (i + 1) source)) b
-    ∙ ap (λ o. and_before o (machine_statements size cells values (drop (i + 1) source))) some)
-    ∙ after_push made x (machine_statements size cells values (drop (i + 1) source))
+pub taken : (values : List Term → Option ℤ) (source : List Stmt) (i : ℕ) (s : Stmt) (made : List Statement) (x : Statement) → i < length source → s ≡ get_or source i s → (row s.name).assembly ≡ false → machine_statement values s ≡ Some x →
+    after made (machine_statements values (drop i source)) ≡ after (made ++ x ∷ []) (machine_statements values (drop (i + 1) source))
+taken values source i s made x h is b some =
+    ap (λ ss. after made (machine_statements values ss)) (first_left source i s h is)
+    ∙ ap (after made) (executable_first (row s.name).assembly (machine_statement values s) (machine_statements values (drop (i + 1) source)) b
+    ∙ ap (λ o. and_before o (machine_statements values (drop (i + 1) source))) some)
+    ∙ after_push made x (machine_statements values (drop (i + 1) source))

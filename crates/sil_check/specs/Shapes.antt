@@ -9,7 +9,8 @@ use Rattle.sil_macros.specs.Rows.{row}
 use Rattle.sil_operands.specs.declared.expr.Term.{Term}
 use Rattle.sil_operands.specs.declared.operand.Operand.{Operand}
 use Rattle.sil_operands.specs.declared.operand.Operand.TheVariants.{Null, Expr, List as Listed, Text}
-use Rattle.sil_cards.specs.Verdicts.{is_word, named_alone, is_null}
+use Rattle.sil_base.specs.Names.{is_word}
+use Rattle.sil_operands.specs.Simple.{named_alone, is_null}
 
 -- what a table does at a character, but for going on with another table
 abbrev pub is_key : List ℕ → Bool

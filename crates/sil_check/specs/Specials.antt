@@ -1,6 +1,6 @@
 -- The special symbols.
 use Rattle.std.specs.Prelude.{ℕ, ◌-◌, ◌/◌, ◌%◌, nat_le, nat_lt, List, codes, Option, Some, None, option_and_then, ◌&&◌, ◌==◌, if◌then◌else◌, ℤ, pos, negsuc}
-use Rattle.sil_model.specs.declared.limits.TheConstants.{FIRST_ENTRY}
+use Rattle.sil_base.specs.declared.places.TheConstants.{FIRST_ENTRY}
 use Rattle.sil_model.specs.declared.program.Specials.{Specials}
 
 -- the statement whose entry a number is, where there are so many statements and a descriptor has so many bytes

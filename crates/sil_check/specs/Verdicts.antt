@@ -1,5 +1,5 @@
 -- What a check answers.
-use Rattle.std.specs.Prelude.{◌≡◌, ℕ, List, [], ◌∷◌, Option, Some, None, Bool, true, false, ◌&&◌}
+use Rattle.std.specs.Prelude.{◌≡◌, ℕ, List, [], ◌∷◌, Option, Some, None, Bool, true, false, ◌&&◌, ◌||◌}
 use Rattle.std.specs.List.{list_all}
 use Rattle.std.specs.declared.result.Result.{Result}
 use Rattle.std.specs.declared.result.Result.TheVariants.{Ok, Err}
@@ -13,24 +13,26 @@ use Rattle.sil_symbols.specs.declared.stmt.Stmt.{Stmt}
 use Rattle.sil_symbols.specs.Rules.{faults_of}
 use Rattle.data_asm.specs.Faults.{data_faults}
 use Rattle.sil_model.specs.declared.program.Program.{Program}
+use Rattle.sil_model.specs.Built.{is_built}
 use Rattle.sil_check.specs.declared.stop.CheckStop.{CheckStop}
 use Rattle.sil_check.specs.declared.stop.CheckStop.TheVariants as stop
 use Rattle.sil_check.specs.Shapes.{fits}
 use Rattle.sil_check.specs.Standard.{is_standard}
 use Rattle.sil_check.specs.Statements.{statements_of}
-use Rattle.sil_check.specs.Programs.{program_of}
+use Rattle.sil_check.specs.Programs.{program_of, is_static_program}
 
--- the macros that are installed so far: MOVD, INCRA and ENDEX, and those of the assembly but FORMAT
+-- the macros of the assembly but FORMAT
+abbrev pub is_assembled : Macro → Bool
+is_assembled macros.Format = false
+is_assembled name = (row name).assembly
+
+-- those, and the macros that are installed so far
 abbrev pub is_built_macro : Macro → Bool
-is_built_macro macros.Movd = true
-is_built_macro macros.Incra = true
-is_built_macro macros.Endex = true
-is_built_macro macros.Format = false
-is_built_macro name = (row name).assembly
+is_built_macro name = is_assembled name || is_built name
 
 -- a statement of such a macro and its shape
-abbrev pub is_built : Stmt → Bool
-is_built s = is_built_macro s.name && fits s.name s.operands
+abbrev pub is_built_statement : Stmt → Bool
+is_built_statement s = is_built_macro s.name && fits s.name s.operands
 
 abbrev pub is_none : {A : Type 0} → List A → Bool
 is_none [] = true
@@ -46,18 +48,19 @@ abbrev pub if_built : Bool → Result Program CheckStop → Result Program Check
 if_built true next = next
 if_built false next = Err stop.NotBuilt
 
-abbrev pub made : Option Program → Result Program CheckStop
-made (Some program) = Ok program
-made None = Err stop.NotBuilt
+-- the program, where it is made and its places are static descriptors
+abbrev pub made : ℕ → Option Program → Result Program CheckStop
+made size (Some program) = if_built (is_static_program size program) (Ok program)
+made size None = Err stop.NotBuilt
 
 -- what is answered for a source, without want of memory: faults of symbols, then of data, then the program
 abbrev pub verdict_of : Parameters → List Stmt → List ℕ → Result Program CheckStop
 verdict_of p source tables =
     unless_faults (faults_of p source)
-    (if_built (list_all is_built source)
+    (if_built (list_all is_built_statement source)
     (unless_faults (data_faults p source)
     (if_built (is_none tables && is_standard p.settings.sizes)
-    (made (program_of p source)))))
+    (made p.settings.sizes.descr (program_of p source)))))
 
 -- the same, for the cards of a source
 abbrev pub verdict : List CardParts → List ℕ → Parameters → Result Program CheckStop

@@ -1,77 +1,84 @@
 // The operands of executable statements, as the machine takes them.
-ghost use Rattle.std.specs.Prelude.{◌≡◌, ◌<◌, MatchResult, All, IfOk, IfSome, Some, slice_get};
+ghost use Rattle.std.specs.Prelude.{◌≡◌, MatchResult, All, IfOk, IfSome, Some};
 ghost use Rattle.sil_symbols.specs.Resolved.{Resolves};
 ghost use Rattle.sil_symbols.specs.Symbols.{value_of};
-ghost use Rattle.sil_check.specs.Arguments.{is_descriptor, is_descriptor_at, arg_by, arg_of, args_of, FitsNumber};
+ghost use Rattle.sil_check.specs.Arguments.{arg_by, arg_of, args_of, first_of, null_arg, rest_of, FitsNumber};
 ghost use Rattle.sil_check.specs.Held.{IsUnmade};
 
 use crate::stop::CheckStop;
-use layout_params::{Cell, Layout, Params};
+use layout_params::Params;
+use sil_base::Items;
 use sil_macros::{Kind, Place};
-use sil_model::{Arg, FIRST_CELL};
+use sil_model::Arg;
 use sil_operands::Operand;
 use sil_symbols::{Stmt, Symbols};
 use std::alloc::Global;
 
-/// A source that was resolved: its parameters, statements, symbols and static cells.
+/// A source that was resolved: its parameters, statements and symbols.
 #[derive(Clone, Copy)]
 pub(crate) struct Source<'a> {
     pub params: &'a Params,
     pub statements: &'a [Stmt],
     pub symbols: &'a Symbols,
-    pub cells: &'a [Cell],
 }
 
-fn is_descriptor(cells: &[Cell], number: usize) -> bool
-    ensures { result ≡ is_descriptor (slice_get cells.now number) }
+/// A null operand in a place of this kind.
+fn null_arg(alloc: Global, kind: Kind) -> Arg
+    ensures arg { result ≡ null_arg kind }
+    ensures fits { FitsNumber result }
 {
-    match cells.get(number).copied() {
-        Some(Cell::Descr(_)) => true,
-        _ => false,
+    match kind {
+        Kind::Goto => Arg::Goto(None),
+        Kind::Gotos => Arg::Gotos(Items::of(Vec::new(alloc))),
+        _ => Arg::Absent,
     }
 }
 
-/// Whether a number is the address of a descriptor among the first cells, each of so many bytes.
-fn is_descriptor_at(size: u64, cells: &[Cell], at: i64) -> bool
-    requires { 0 < size }
-    ensures { result ≡ is_descriptor_at size cells.now at }
-{
-    let Ok(at) = u64::try_from(at) else {
-        return false;
-    };
-    let Some(offset) = at.checked_sub(FIRST_CELL) else {
-        return false;
-    };
-    offset % size == 0 && is_descriptor(cells, (offset / size) as usize)
-}
-
 /// A value in a place of this kind.
-fn arg_by(size: u64, cells: &[Cell], kind: Kind, value: i64) -> Option<Arg>
-    requires { 0 < size }
-    ensures arg { result ≡ arg_by size cells.now kind (Some value) }
+fn arg_by(kind: Kind, value: i64) -> Option<Arg>
+    ensures arg { result ≡ arg_by kind (Some value) }
     ensures fits { IfSome result FitsNumber }
 {
     match kind {
-        Kind::Descr if is_descriptor_at(size, cells, value) => Some(Arg::Place(value)),
+        Kind::Descr | Kind::Spec => Some(Arg::Place(value)),
         Kind::Number => Some(Arg::Number(value)),
         _ => None,
     }
 }
 
-/// The operand in a place of this kind.
+/// The operand in this place.
 #[tactic(auto, using(crate::proofs::Resolved::resolved_value))]
-fn arg_of(source: &Source<'_>, kind: Kind, operand: &Operand) -> Option<Arg>
+fn arg_of(alloc: Global, source: &Source<'_>, place: Place, operand: &Operand) -> Option<Arg>
     requires { Resolves source.now.params.now source.now.statements.now source.now.symbols.now }
-    ensures arg { result ≡ arg_of source.now.params.now.settings.sizes.descr source.now.cells.now
-        (value_of source.now.params.now source.now.statements.now) kind operand.now }
+    ensures arg { result ≡ arg_of (value_of source.now.params.now source.now.statements.now) place operand.now }
     ensures fits { IfSome result FitsNumber }
 {
     match operand {
-        Operand::Expr(expr) => {
-            let value = source.symbols.value(expr)?;
-            arg_by(source.params.numbers().descr(), source.cells, kind, value)
-        }
+        Operand::Null if place.optional => Some(null_arg(alloc, place.kind)),
+        Operand::Expr(expr) => arg_by(place.kind, source.symbols.value(expr)?),
         _ => None,
+    }
+}
+
+/// The first operand, or a null one, in this place.
+fn first_arg(alloc: Global, source: &Source<'_>, place: Place, operands: &[Operand]) -> Option<Arg>
+    requires { Resolves source.now.params.now source.now.statements.now source.now.symbols.now }
+    ensures arg { result ≡ arg_of (value_of source.now.params.now source.now.statements.now) place (first_of operands.now) }
+    ensures fits { IfSome result FitsNumber }
+{
+    match operands.first() {
+        Some(operand) => arg_of(alloc, source, place, operand),
+        None => arg_of(alloc, source, place, &Operand::Null),
+    }
+}
+
+/// The operands after the first.
+fn rest_of(operands: &[Operand]) -> &[Operand]
+    ensures { result.now ≡ rest_of operands.now }
+{
+    match operands.split_first() {
+        Some((_, rest)) => rest,
+        None => operands,
     }
 }
 
@@ -83,22 +90,18 @@ pub(crate) fn args_of(
     operands: &[Operand],
 ) -> Result<Vec<Arg>, CheckStop>
     requires { Resolves source.now.params.now source.now.statements.now source.now.symbols.now }
-    ensures args { let made = args_of source.now.params.now.settings.sizes.descr source.now.cells.now
-        (value_of source.now.params.now source.now.statements.now) places.now operands.now
+    ensures args { let made = args_of (value_of source.now.params.now source.now.statements.now) places.now operands.now
         in MatchResult result (λ v. made ≡ Some v.items) (IsUnmade made) }
     ensures fit { IfOk result (λ v. All FitsNumber v.items) }
 {
     let mut args = Vec::new(alloc);
     let mut rest = operands;
     for place in places {
-        let Some((operand, more)) = rest.split_first() else {
-            return Err(CheckStop::NotBuilt);
-        };
-        let Some(arg) = arg_of(source, place.kind, operand) else {
+        let Some(arg) = first_arg(alloc, source, *place, rest) else {
             return Err(CheckStop::NotBuilt);
         };
         args.push(arg)?;
-        rest = more;
+        rest = rest_of(rest);
     }
     Ok(args)
 }

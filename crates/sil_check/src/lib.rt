@@ -2,6 +2,7 @@
 #![tactic(auto)]
 
 mod arguments;
+mod places;
 mod program;
 mod shapes;
 mod source;
@@ -9,8 +10,6 @@ mod specials;
 mod standard;
 mod statements;
 mod stop;
-#[cfg(test)]
-mod tests;
 
 pub use shapes::fits;
 pub use source::check;

@@ -3,7 +3,7 @@ ghost use Rattle.std.specs.Prelude.{◌≡◌, ◌<◌, ◌≤◌, ◌^◌, leng
 ghost use Rattle.sil_symbols.specs.Resolved.{Resolves};
 ghost use Rattle.sil_symbols.specs.Symbols.{value_of};
 ghost use Rattle.sil_check.specs.Programs.{machine_statement, machine_statements, program_over};
-ghost use Rattle.sil_check.specs.Held.{HasFitNumbers, IsUnmade};
+ghost use Rattle.sil_check.specs.Held.{HasFitNumbers, HasFitPlaces, IsUnmade};
 
 use crate::arguments::{Source, args_of};
 use crate::specials::specials_of;
@@ -22,8 +22,7 @@ fn machine_statement(
     statement: &Stmt,
 ) -> Result<Statement, CheckStop>
     requires { Resolves source.now.params.now source.now.statements.now source.now.symbols.now }
-    ensures statement { let made = machine_statement source.now.params.now.settings.sizes.descr source.now.cells.now
-        (value_of source.now.params.now source.now.statements.now) statement.now
+    ensures statement { let made = machine_statement (value_of source.now.params.now source.now.statements.now) statement.now
         in MatchResult result (λ s. made ≡ Some s) (IsUnmade made) }
     ensures fit { IfOk result (λ s. HasFitNumbers s) }
 {
@@ -39,8 +38,7 @@ fn machine_statement(
 /// The executable statements of a source.
 fn machine_statements(alloc: Global, source: &Source<'_>) -> Result<Vec<Statement>, CheckStop>
     requires { Resolves source.now.params.now source.now.statements.now source.now.symbols.now }
-    ensures statements { let made = machine_statements source.now.params.now.settings.sizes.descr source.now.cells.now
-        (value_of source.now.params.now source.now.statements.now) source.now.statements.now
+    ensures statements { let made = machine_statements (value_of source.now.params.now source.now.statements.now) source.now.statements.now
         in MatchResult result (λ v. made ≡ Some v.items) (IsUnmade made) }
     ensures fit { IfOk result (λ v. All HasFitNumbers v.items) }
     ensures few { IfOk result (λ v. vec_len v ≤ length source.now.statements.now) }
@@ -68,12 +66,12 @@ pub(crate) fn program_of(
         in MatchResult result (λ p. made ≡ Some p) (IsUnmade made) }
     ensures cells { IfOk result (λ p. p.cells ≡ cells.items) }
     ensures fit { IfOk result (λ p. All HasFitNumbers p.statements) }
+    ensures specials { IfOk result (λ p. HasFitPlaces p.specials) }
 {
     let source = Source {
         params,
         statements,
         symbols,
-        cells: &cells,
     };
     let made = machine_statements(alloc, &source)?;
     let specials = specials_of(&source, made.len() as u32);

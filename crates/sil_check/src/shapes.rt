@@ -1,31 +1,11 @@
 // Whether operands have the shape of their macro.
-ghost use Rattle.std.specs.Prelude.{◌≡◌, option_map, is_some};
+ghost use Rattle.std.specs.Prelude.{◌≡◌, is_some};
 ghost use Rattle.std.specs.List.{list_all};
-ghost use Rattle.sil_cards.specs.Verdicts.{one_name, named_alone, is_null};
+ghost use Rattle.sil_operands.specs.Simple.{named_alone};
 ghost use Rattle.sil_check.specs.Shapes.{is_key, names_key, fits_expression, fits_list, takes_text, fits_place, fits_places, fits};
 
 use sil_macros::{Kind, Macro, Place, shape};
-use sil_operands::{Expr, Factor, Operand, Operands, Term};
-
-/// The name, where factors are just one.
-fn one_name(factors: &[Factor]) -> Option<&[u8]>
-    ensures { option_map (λ name. name.now) result ≡ one_name factors.now }
-{
-    match factors {
-        [Factor::Name(name)] => Some(name.bytes()),
-        _ => None,
-    }
-}
-
-/// The name, where an expression is just one without a minus.
-fn named_alone(terms: &[Term]) -> Option<&[u8]>
-    ensures { option_map (λ name. name.now) result ≡ named_alone terms.now }
-{
-    match terms {
-        [term] if !term.minus => one_name(term.factors.items()),
-        _ => None,
-    }
-}
+use sil_operands::{Expr, Operand, Operands, Term, are_null, named_alone};
 
 fn is_key(name: &[u8]) -> bool
     ensures { result ≡ is_key name.now }
@@ -95,18 +75,6 @@ fn fits_place(place: Place, operand: &Operand) -> bool
         Operand::List(items) => fits_list(place.kind, items.items()),
         Operand::Text(_) => takes_text(place.kind),
     }
-}
-
-fn is_null(operand: &Operand) -> bool
-    ensures { result ≡ is_null operand.now }
-{
-    matches!(operand, Operand::Null)
-}
-
-fn are_null(operands: &[Operand]) -> bool
-    ensures { result ≡ list_all is_null operands.now }
-{
-    operands.iter().all(|operand| is_null(operand))
 }
 
 fn fits_places(places: &[Place], operands: &[Operand]) -> bool

@@ -3,12 +3,13 @@ ghost use Rattle.std.specs.Prelude.{◌≡◌, ◌≤◌, [], length, All, Ok, I
 ghost use Rattle.std.specs.List.{list_all};
 ghost use Rattle.layout_params.specs.Sizes.{packed_16};
 ghost use Rattle.sil_cards.specs.Cards.{AreCards};
+ghost use Rattle.sil_model.specs.Built.{AreBuilt};
 ghost use Rattle.sil_model.specs.WellFormed.{IsWellFormed};
 ghost use Rattle.sil_symbols.specs.Rules.{EndsOnce};
-ghost use Rattle.sil_check.specs.Arguments.{HasOperands};
 ghost use Rattle.sil_check.specs.Held.{IsProgramOf};
-ghost use Rattle.sil_check.specs.Verdicts.{is_built_macro, is_built, verdict_of, verdict, IsStopFor};
+ghost use Rattle.sil_check.specs.Verdicts.{is_assembled, is_built_statement, verdict_of, verdict, IsStopFor};
 
+use crate::places::is_static_program;
 use crate::program::program_of;
 use crate::shapes::fits;
 use crate::standard::is_standard;
@@ -16,33 +17,36 @@ use crate::statements::statements_of;
 use crate::stop::CheckStop;
 use data_asm::assemble;
 use layout_params::Params;
+use sil_base::MAX_CARDS;
 use sil_cards::Card;
 use sil_macros::{Macro, is_assembly};
-use sil_model::Program;
+use sil_model::{Program, is_built};
 use sil_symbols::{Stmt, resolve};
 use std::alloc::Global;
 
-/// Whether a macro is installed so far.
-fn is_built_macro(name: Macro) -> bool
-    ensures { result ≡ is_built_macro name }
+/// Whether a macro is one of the assembly but FORMAT.
+fn is_assembled(name: Macro) -> bool
+    ensures { result ≡ is_assembled name }
 {
     match name {
-        Macro::Movd | Macro::Incra | Macro::Endex => true,
         Macro::Format => false,
         _ => is_assembly(name),
     }
 }
 
-fn is_built(statement: &Stmt) -> bool
-    ensures { result ≡ is_built statement.now }
+fn is_built_statement(statement: &Stmt) -> bool
+    ensures { result ≡ is_built_statement statement.now }
 {
-    is_built_macro(statement.name) && fits(statement.name, &statement.operands)
+    let name = statement.name;
+    (is_assembled(name) || is_built(name)) && fits(name, &statement.operands)
 }
 
 fn are_built(statements: &[Stmt]) -> bool
-    ensures { result ≡ list_all is_built statements.now }
+    ensures { result ≡ list_all is_built_statement statements.now }
 {
-    statements.iter().all(|statement| is_built(statement))
+    statements
+        .iter()
+        .all(|statement| is_built_statement(statement))
 }
 
 /// The program of the statements of a source, or why there is none.
@@ -52,7 +56,7 @@ fn check_statements(
     tables: &[u8],
     params: &Params,
 ) -> Result<Program, CheckStop>
-    requires few { length statements.now ≤ 40000 }
+    requires few { length statements.now ≤ MAX_CARDS }
     requires ended { EndsOnce statements.now }
     ensures verdict { let answer = verdict_of params.now statements.now tables.now
         in MatchResult result (λ p. answer ≡ Ok p) (IsStopFor answer) }
@@ -66,30 +70,33 @@ fn check_statements(
     if !tables.is_empty() || !is_standard(params) {
         return Err(CheckStop::NotBuilt);
     }
-    program_of(alloc, params, statements, &symbols, cells)
+    let program = program_of(alloc, params, statements, &symbols, cells)?;
+    if !is_static_program(params, &program) {
+        return Err(CheckStop::NotBuilt);
+    }
+    Ok(program)
 }
 
 /// The program of cards that were read, or why there is none. Faults of lines come first, those of
 /// names (N), then those of values (V), and after the shapes of statements those of data (A). A
 /// source is not built so far where a statement is a FORMAT, has operands that don't fit its macro
-/// or is neither of the assembly nor MOVD, INCRA or ENDEX; where there are tables; in another
-/// layout than the standard one; and where a descriptor that is an operand is none of a data
-/// statement.
+/// or is neither of the assembly nor of a macro that is installed so far; where there are tables; in
+/// another layout than the standard one; and where a place that is an operand isn't that of a
+/// descriptor of a data statement.
 pub fn check(
     alloc: Global,
-    cards: &[Card],
+    cards: Vec<Card>,
     tables: &[u8],
     params: &Params,
 ) -> Result<Program, CheckStop>
-    requires few { length cards.now ≤ 40000 }
-    requires good { AreCards cards.now }
-    ensures verdict { let answer = verdict cards.now tables.now params.now
+    requires few { length cards.items ≤ MAX_CARDS }
+    requires good { AreCards cards.items }
+    ensures verdict { let answer = verdict cards.items tables.now params.now
         in MatchResult result (λ p. answer ≡ Ok p) (IsStopFor answer) }
     ensures well_formed { IfOk result (λ p. IsWellFormed p params.now.settings) }
     ensures standard { IfOk result (λ p. params.now.settings.sizes ≡ packed_16) }
     ensures no_tables { IfOk result (λ p. p.tables ≡ []) }
-    ensures operands { IfOk result (λ p.
-        All (λ s. HasOperands (length p.cells) s.name s.args) p.statements) }
+    ensures built { IfOk result (AreBuilt params.now.settings.sizes.descr) }
 {
     let statements = statements_of(alloc, cards)?;
     check_statements(alloc, &statements, tables, params)

@@ -3,11 +3,14 @@ ghost use Rattle.std.specs.Prelude.{◌≡◌, ◌<◌, option_and_then};
 ghost use Rattle.layout_params.specs.Sizes.{value_limit};
 ghost use Rattle.sil_symbols.specs.Resolved.{Resolves};
 ghost use Rattle.sil_symbols.specs.Symbols.{value_of_name};
+ghost use Rattle.sil_model.specs.WellFormed.{FitsOption};
+ghost use Rattle.sil_check.specs.Held.{HasFitPlaces};
 ghost use Rattle.sil_check.specs.Specials.{statement_at, number_within, specials_of};
 
 use crate::arguments::Source;
 use layout_params::Layout;
-use sil_model::{FIRST_ENTRY, Specials};
+use sil_base::FIRST_ENTRY;
+use sil_model::Specials;
 
 /// The statement whose entry a number is, of so many, where a descriptor has so many bytes.
 fn statement_at(size: u64, count: u32, at: i64) -> Option<u32>
@@ -34,7 +37,8 @@ fn number_within(limit: u64, value: i64) -> Option<u64>
 #[tactic(auto, using(crate::proofs::Resolved::resolved_name))]
 fn value_of(source: &Source<'_>, name: &[u8]) -> Option<i64>
     requires { Resolves source.now.params.now source.now.statements.now source.now.symbols.now }
-    ensures { result ≡ value_of_name source.now.params.now source.now.statements.now name.now }
+    ensures value { result ≡ value_of_name source.now.params.now source.now.statements.now name.now }
+    ensures fits { FitsOption result }
 {
     source.symbols.get(name)
 }
@@ -66,9 +70,10 @@ fn number_named(source: &Source<'_>, name: &[u8]) -> Option<u64>
 /// The special symbols of a source with so many executable statements.
 pub(crate) fn specials_of(source: &Source<'_>, count: u32) -> Specials
     requires { Resolves source.now.params.now source.now.statements.now source.now.symbols.now }
-    ensures { result ≡ specials_of source.now.params.now.settings.sizes.descr count
+    ensures value { result ≡ specials_of source.now.params.now.settings.sizes.descr count
         (value_limit source.now.params.now.settings.sizes)
         (value_of_name source.now.params.now source.now.statements.now) }
+    ensures fits { HasFitPlaces result }
 {
     Specials {
         over: statement_named(source, b"OVER", count),

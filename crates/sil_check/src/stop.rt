@@ -1,9 +1,7 @@
 // Why no program was made.
 ghost use Rattle.std.specs.Prelude.{◌≡◌};
 
-use data_asm::DataStop;
-use sil_base::{Fault, Items};
-use sil_symbols::SymbolStop;
+use sil_base::{Fault, FaultStop, Items};
 use std::alloc::{AllocError, AllocFailed};
 
 /// Why no program was made.
@@ -37,28 +35,15 @@ impl<T: Drop> From<AllocFailed<T>> for CheckStop {
     }
 }
 
-impl From<SymbolStop> for CheckStop {
-    ghost use Rattle.sil_check.specs.Held.{symbol_stop};
+impl From<FaultStop> for CheckStop {
+    ghost use Rattle.sil_check.specs.Held.{stop_below};
 
-    ghost from_gives = { λ stop e. e ≡ symbol_stop stop };
+    ghost from_gives = { λ stop e. e ≡ stop_below stop };
 
-    fn from(stop: SymbolStop) -> CheckStop {
+    fn from(stop: FaultStop) -> CheckStop {
         match stop {
-            SymbolStop::Faults(faults) => CheckStop::Faults(faults),
-            SymbolStop::Memory => CheckStop::Memory,
-        }
-    }
-}
-
-impl From<DataStop> for CheckStop {
-    ghost use Rattle.sil_check.specs.Held.{assembly_stop};
-
-    ghost from_gives = { λ stop e. e ≡ assembly_stop stop };
-
-    fn from(stop: DataStop) -> CheckStop {
-        match stop {
-            DataStop::Faults(faults) => CheckStop::Faults(faults),
-            DataStop::Memory => CheckStop::Memory,
+            FaultStop::Faults(faults) => CheckStop::Faults(faults),
+            FaultStop::Memory => CheckStop::Memory,
         }
     }
 }

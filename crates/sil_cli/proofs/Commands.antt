@@ -1,11 +1,12 @@
 -- What commands come to.
-use Rattle.std.proofs.Common.{◌≡◌, ℕ, ◌≤◌, ◌^◌, List, Option, None, Some, option_map, IfSome, IfOk, IfErr, OnErr, MatchResult, IsOkAnd, false, refl, sym, ap, ◌∙◌, Ok, Err}
+use Rattle.std.proofs.Common.{◌≡◌, ℕ, ◌≤◌, ◌^◌, List, Option, None, Some, option_map, IfSome, IfOk, IfErr, OnErr, MatchResult, IsOkAnd, true, false, refl, sym, ap, ◌∙◌, Ok, Err}
+use Rattle.std.specs.Prelude.{is_some}
 use Rattle.std.specs.declared.result.Result.{Result}
 use Rattle.std.specs.FinMap.{insert}
 use Rattle.sil_base.specs.Files.{Files}
-use Rattle.sil_base.specs.Tapes.{Tapes}
-use Rattle.sil_base.specs.Units.{AllUnits, tapes_of}
-use Rattle.layout_params.specs.Parameters.{Settings}
+use Rattle.unit_io.specs.Tapes.{Tapes}
+use Rattle.unit_io.specs.Units.{AllUnits, tapes_of}
+use Rattle.layout_params.specs.Parameters.{Parameters}
 use Rattle.sil_model.specs.declared.end.End.{End}
 use Rattle.sil_model.specs.declared.end.End.TheVariants as ends
 use Rattle.sil_model.specs.declared.program.Program.{Program}
@@ -26,7 +27,7 @@ use Rattle.sil_cli.specs.Inputs.{Job, job_at}
 use Rattle.sil_cli.specs.Report.{Comes, Keeps, Causes, EndingCause, has_run}
 use Rattle.sil_cli.specs.Runs.{RunsBytes}
 use Rattle.sil_cli.specs.Words.{Order}
-use Rattle.sil_cli.proofs.SoFar.{IsSoFar, run-so-far}
+use Rattle.sil_cli.proofs.SoFar.{IsSoFar, has-end, run-so-far}
 use Rattle.sil_cli.proofs.Maps.{remove-insert}
 
 -- what is built of a job that is there is built of some job
@@ -66,48 +67,59 @@ keeps-saved order (Some m) between after r image P same ok saves = keeps-file or
 
 -- ---- ran
 
--- an installed image ends as the machine, and leaves its tapes
-pub installed-end : (bytes : List ℕ) (program : Program) (settings : Settings) (n : ℕ) (end : CpuEnd) (tapes tapes' : Tapes) → IsInstalled bytes program settings → n ≤ 2 ^ 40 → RunsBytes bytes n end tapes tapes' → option_map as_end (machine program settings tapes n).end ≡ Some end
-installed-end bytes program settings n end tapes tapes' i few runs = sym (i.behaves.alike tapes n few).end ∙ (runs i.image i.is_image i.spelled).ends
+mapped-some : {A B : Type 0} (f : A → B) (o : Option A) (r : Option B) → r ≡ option_map f o → is_some o ≡ true → is_some r ≡ true
+mapped-some f None r is h = let no : ⊥ = cc in absurd no
+mapped-some f (Some x) r is h = rw is refl
 
-installed-tapes : (bytes : List ℕ) (program : Program) (settings : Settings) (n : ℕ) (end : CpuEnd) (tapes tapes' : Tapes) → IsInstalled bytes program settings → n ≤ 2 ^ 40 → RunsBytes bytes n end tapes tapes' → tapes' ≡ (machine program settings tapes n).tapes
-installed-tapes bytes program settings n end tapes tapes' i few runs = (runs i.image i.is_image i.spelled).leaves ∙ (i.behaves.alike tapes n few).tapes
+-- an installed image ends as the machine, and leaves its tapes, where the machine's run has an end
+pub installed-end : (bytes : List ℕ) (program : Program) (parameters : Parameters) (n : ℕ) (end : CpuEnd) (tapes tapes' : Tapes) → IsInstalled bytes program parameters → n ≤ 2 ^ 40 → RunsBytes bytes n end tapes tapes' →
+    is_some (machine program parameters tapes n).end ≡ true → option_map as_end (machine program parameters tapes n).end ≡ Some end
+installed-end bytes program parameters n end tapes tapes' i few runs told =
+    let alike = i.behaves.alike tapes n few in
+    sym alike.end ∙ (runs i.image i.is_image i.spelled).ends (mapped-some as_end (machine program parameters tapes n).end _ alike.end told)
+
+installed-tapes : (bytes : List ℕ) (program : Program) (parameters : Parameters) (n : ℕ) (end : CpuEnd) (tapes tapes' : Tapes) → IsInstalled bytes program parameters → n ≤ 2 ^ 40 → RunsBytes bytes n end tapes tapes' →
+    is_some (machine program parameters tapes n).end ≡ true → tapes' ≡ (machine program parameters tapes n).tapes
+installed-tapes bytes program parameters n end tapes tapes' i few runs told =
+    let alike = i.behaves.alike tapes n few in
+    (runs i.image i.is_image i.spelled).leaves (mapped-some as_end (machine program parameters tapes n).end _ alike.end told) ∙ alike.tapes
 
 same-some : {T : Type 0} (x y : T) → Some x ≡ Some y → x ≡ y
 same-some x y e = cc
 
 -- a run's end and tapes as a stage
-run-stage : (o : Option End) (end : CpuEnd) (tapes tapes' : Tapes) (files : Files) (files' : Option Files) → option_map as_end o ≡ Some end → tapes' ≡ tapes → files' ≡ Some files
+run-stage : (o : Option End) (end : CpuEnd) (tapes tapes' : Tapes) (files : Files) (files' : Option Files) → (is_some o ≡ true → option_map as_end o ≡ Some end) → (is_some o ≡ true → tapes' ≡ tapes) → files' ≡ Some files
     → IfSome o (λ x. (ending.Ran end ≡ ending.Ran (as_end x)) × (files' ≡ Some files) × (tapes' ≡ tapes))
 run-stage None end tapes tapes' files files' ends same saved = tt
-run-stage (Some x) end tapes tapes' files files' ends same saved = (ap (λ e. ending.Ran e) (sym (same-some _ _ ends)), saved, same)
+run-stage (Some x) end tapes tapes' files files' ends same saved = (ap (λ e. ending.Ran e) (sym (same-some _ _ (ends refl))), saved, same refl)
 
 if-mapped : {T U : Type 0} (o : Option T) (f : T → U) (P : U → Type 0) → IfSome o (λ x. P (f x)) → IfSome (option_map f o) P
 if-mapped None f P h = tt
 if-mapped (Some x) f P h = h
 
-comes-ran : (order : Order) (m : Files) (tapes tapes' : Tapes) (end : CpuEnd) (image : List ℕ) (after : Option Files) (r : Result Job Stop) → job_at order m ≡ r → IsOkAnd r (λ j. IsInstalled image j.program j.settings) → after ≡ Some (insert m order.image image) → order.steps ≤ 2 ^ 40 → RunsBytes image order.steps end tapes tapes' → Comes (Some order) m tapes (ending.Ran end) after tapes'
+comes-ran : (order : Order) (m : Files) (tapes tapes' : Tapes) (end : CpuEnd) (image : List ℕ) (after : Option Files) (r : Result Job Stop) → job_at order m ≡ r → IsOkAnd r (λ j. IsInstalled image j.program j.parameters) → after ≡ Some (insert m order.image image) → order.steps ≤ 2 ^ 40 → RunsBytes image order.steps end tapes tapes' → Comes (Some order) m tapes (ending.Ran end) after tapes'
 comes-ran order m tapes tapes' end image after (Err e) same installed saved few runs = absurd installed
 comes-ran order m tapes tapes' end image after (Ok j) same installed saved few runs = record {
   image = image;
   installed = rw same installed;
-  stage = rw same (if-mapped (machine j.program j.settings tapes order.steps).end _ _ (run-stage _ end _ tapes' (insert m order.image image) after (installed-end image j.program j.settings order.steps end tapes tapes' installed few runs) (installed-tapes image j.program j.settings order.steps end tapes tapes' installed few runs) saved));
+  saves = rw same saved;
+  stage = rw same (if-mapped (machine j.program j.parameters tapes order.steps).end _ _ (run-stage _ end _ tapes' (insert m order.image image) after (installed-end image j.program j.parameters order.steps end tapes tapes' installed few runs) (installed-tapes image j.program j.parameters order.steps end tapes tapes' installed few runs) saved));
 }
 
 -- an installed image isn't refused
-free-refusal : (image : List ℕ) (e : Stop) (job : Job) → IsInstalled image job.program job.settings → ((i : Image) → IsImage i → image ≡ spelling i → e ≡ stop.Memory) → is_free e ≡ false → ⊥
+free-refusal : (image : List ℕ) (e : Stop) (job : Job) → IsInstalled image job.program job.parameters → ((i : Image) → IsImage i → image ≡ spelling i → e ≡ stop.Memory) → is_free e ≡ false → ⊥
 free-refusal image e job installed accepts kept =
     let memory : e ≡ stop.Memory = accepts installed.image installed.is_image installed.spelled in
     let no : is_free stop.Memory ≡ false = rw memory at kept in
     cc
 
-go-told : (order : Order) (before after : Option Files) (tapes tapes' : Tapes) (r : Result CpuEnd Stop) (image : List ℕ) → IfSome before (λ m. IsOkAnd (job_at order m) (λ j. IsInstalled image j.program j.settings) × (after ≡ Some (insert m order.image image))) → (job : Job) × IsInstalled image job.program job.settings → IfOk r (λ end. RunsBytes image order.steps end tapes tapes') → ((i : Image) → IsImage i → image ≡ spelling i → IfErr r (λ e. e ≡ stop.Memory)) → order.steps ≤ 2 ^ 40 → IfSome before (λ m. is_free_end (ending_of r) ≡ false → Comes (Some order) m tapes (ending_of r) after tapes')
+go-told : (order : Order) (before after : Option Files) (tapes tapes' : Tapes) (r : Result CpuEnd Stop) (image : List ℕ) → IfSome before (λ m. IsOkAnd (job_at order m) (λ j. IsInstalled image j.program j.parameters) × (after ≡ Some (insert m order.image image))) → (job : Job) × IsInstalled image job.program job.parameters → IfOk r (λ end. RunsBytes image order.steps end tapes tapes') → ((i : Image) → IsImage i → image ≡ spelling i → IfErr r (λ e. e ≡ stop.Memory)) → order.steps ≤ 2 ^ 40 → IfSome before (λ m. is_free_end (ending_of r) ≡ false → Comes (Some order) m tapes (ending_of r) after tapes')
 go-told order None after tapes tapes' r image saved some runs accepts few = tt
 go-told order (Some m) after tapes tapes' (Ok end) image saved some runs accepts few = λ kept. comes-ran order m tapes tapes' end image after _ refl saved.0 saved.1 few runs
 go-told order (Some m) after tapes tapes' (Err e) image saved some runs accepts few = λ kept. absurd (free-refusal image e some.0 some.1 accepts kept)
 
 -- the same with the bytes that were run
-pub go-run : (order : Order) (before after : Option Files) (tapes tapes' : Tapes) (r : Result CpuEnd Stop) (image bytes : List ℕ) → bytes ≡ image → IfSome before (λ m. IsOkAnd (job_at order m) (λ j. IsInstalled image j.program j.settings) × (after ≡ Some (insert m order.image image))) → (job : Job) × IsInstalled image job.program job.settings → IfOk r (λ end. RunsBytes bytes order.steps end tapes tapes') → ((i : Image) → IsImage i → bytes ≡ spelling i → IfErr r (λ e. e ≡ stop.Memory)) → order.steps ≤ 2 ^ 40 → IfSome before (λ m. is_free_end (ending_of r) ≡ false → Comes (Some order) m tapes (ending_of r) after tapes')
+pub go-run : (order : Order) (before after : Option Files) (tapes tapes' : Tapes) (r : Result CpuEnd Stop) (image bytes : List ℕ) → bytes ≡ image → IfSome before (λ m. IsOkAnd (job_at order m) (λ j. IsInstalled image j.program j.parameters) × (after ≡ Some (insert m order.image image))) → (job : Job) × IsInstalled image job.program job.parameters → IfOk r (λ end. RunsBytes bytes order.steps end tapes tapes') → ((i : Image) → IsImage i → bytes ≡ spelling i → IfErr r (λ e. e ≡ stop.Memory)) → order.steps ≤ 2 ^ 40 → IfSome before (λ m. is_free_end (ending_of r) ≡ false → Comes (Some order) m tapes (ending_of r) after tapes')
 go-run order before after tapes tapes' r image bytes same saved some runs accepts few = go-told order before after tapes tapes' r image saved some (rw same at runs) (rw same at accepts) few
 
 -- ---- causes
@@ -126,22 +138,24 @@ program-end (Some x) end e h =
     let same : as_end x ≡ end = same-some _ _ e in
     rw (sym same) (as-program-end x h)
 
-run-caused : (n : ℕ) (tapes tapes' : Tapes) (r : Result CpuEnd Stop) (image : List ℕ) (b a : ℕ) → (job : Job) × IsInstalled image job.program job.settings → IfOk r (λ end. RunsBytes image n end tapes tapes') → ((i : Image) → IsImage i → image ≡ spelling i → IfErr r (λ e. e ≡ stop.Memory)) → n ≤ 2 ^ 40 → EndingCause (ending_of r) b a
-run-caused n tapes tapes' (Ok end) image b a some runs accepts few = program-end _ end (installed-end image some.0.program some.0.settings n end tapes tapes' some.1 few runs) (run-so-far some.0.program n _)
+run-caused : (n : ℕ) (tapes tapes' : Tapes) (r : Result CpuEnd Stop) (image : List ℕ) (b a : ℕ) → (job : Job) × IsInstalled image job.program job.parameters → IfOk r (λ end. RunsBytes image n end tapes tapes') → ((i : Image) → IsImage i → image ≡ spelling i → IfErr r (λ e. e ≡ stop.Memory)) → n ≤ 2 ^ 40 → EndingCause (ending_of r) b a
+run-caused n tapes tapes' (Ok end) image b a some runs accepts few =
+    let so-far = run-so-far some.0.program some.0.parameters n _ in
+    program-end _ end (installed-end image some.0.program some.0.parameters n end tapes tapes' some.1 few runs (has-end _ so-far)) so-far
 run-caused n tapes tapes' (Err e) image b a some runs accepts few =
     let memory : e ≡ stop.Memory = accepts some.1.image some.1.is_image some.1.spelled in
     rw memory tt
 
 -- a run of an installed image has its cause
-pub run-cause : (n : ℕ) (tapes tapes' : Tapes) (r : Result CpuEnd Stop) (image bytes : List ℕ) (b a : ℕ) → bytes ≡ image → (job : Job) × IsInstalled image job.program job.settings → IfOk r (λ end. RunsBytes bytes n end tapes tapes') → ((i : Image) → IsImage i → bytes ≡ spelling i → IfErr r (λ e. e ≡ stop.Memory)) → n ≤ 2 ^ 40 → EndingCause (ending_of r) b a
+pub run-cause : (n : ℕ) (tapes tapes' : Tapes) (r : Result CpuEnd Stop) (image bytes : List ℕ) (b a : ℕ) → bytes ≡ image → (job : Job) × IsInstalled image job.program job.parameters → IfOk r (λ end. RunsBytes bytes n end tapes tapes') → ((i : Image) → IsImage i → bytes ≡ spelling i → IfErr r (λ e. e ≡ stop.Memory)) → n ≤ 2 ^ 40 → EndingCause (ending_of r) b a
 run-cause n tapes tapes' r image bytes b a same some runs accepts few = run-caused n tapes tapes' r image b a some (rw same at runs) (rw same at accepts) few
 
-run-stop : (order : Order) (m : Files) (r : Result CpuEnd Stop) (image : List ℕ) → (job : Job) × IsInstalled image job.program job.settings → ((i : Image) → IsImage i → image ≡ spelling i → IfErr r (λ e. e ≡ stop.Memory)) → IfErr r (λ e. is_free e ≡ false → job_at order m ≡ Err e)
+run-stop : (order : Order) (m : Files) (r : Result CpuEnd Stop) (image : List ℕ) → (job : Job) × IsInstalled image job.program job.parameters → ((i : Image) → IsImage i → image ≡ spelling i → IfErr r (λ e. e ≡ stop.Memory)) → IfErr r (λ e. is_free e ≡ false → job_at order m ≡ Err e)
 run-stop order m (Ok end) image some accepts = tt
 run-stop order m (Err e) image some accepts = λ kept. absurd (free-refusal image e some.0 some.1 accepts kept)
 
 -- a run is stopped for want of memory alone
-pub run-stops : (order : Order) (before : Option Files) (r : Result CpuEnd Stop) (image bytes : List ℕ) → bytes ≡ image → (job : Job) × IsInstalled image job.program job.settings → ((i : Image) → IsImage i → bytes ≡ spelling i → IfErr r (λ e. e ≡ stop.Memory)) → IfSome before (λ m. IfErr r (λ e. is_free e ≡ false → job_at order m ≡ Err e))
+pub run-stops : (order : Order) (before : Option Files) (r : Result CpuEnd Stop) (image bytes : List ℕ) → bytes ≡ image → (job : Job) × IsInstalled image job.program job.parameters → ((i : Image) → IsImage i → bytes ≡ spelling i → IfErr r (λ e. e ≡ stop.Memory)) → IfSome before (λ m. IfErr r (λ e. is_free e ≡ false → job_at order m ≡ Err e))
 run-stops order None r image bytes same some accepts = tt
 run-stops order (Some m) r image bytes same some accepts = run-stop order m r image some (rw same at accepts)
 

@@ -2,8 +2,8 @@
 use Rattle.std.proofs.Common.{◌≡◌, ◌≢◌, ℕ, Bool, true, false, List, Option, None, Some, IfSome, refl, sym, ap, ◌∙◌, arith}
 use Rattle.sil_base.specs.Causes.{Rose}
 use Rattle.sil_base.specs.Files.{Files}
-use Rattle.sil_base.specs.Tapes.{Tapes}
-use Rattle.sil_base.specs.Units.{AllUnits, tapes_of}
+use Rattle.unit_io.specs.Tapes.{Tapes}
+use Rattle.unit_io.specs.Units.{AllUnits, tapes_of}
 use Rattle.sil_cli.specs.declared.ending.Ending.{Ending}
 use Rattle.sil_cli.specs.declared.ending.Ending.TheVariants as ending
 use Rattle.sil_cli.specs.declared.ending.Stop.{Stop}

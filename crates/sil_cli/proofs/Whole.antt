@@ -5,11 +5,11 @@ use Rattle.std.specs.declared.result.Result.{Result}
 use Rattle.std.specs.FinMap.{get, insert}
 use Rattle.sil_base.specs.Causes.{Rose}
 use Rattle.sil_base.specs.Files.{Files}
-use Rattle.sil_base.specs.Tapes.{Tapes, all_told, finished_tapes, failed_finishes}
-use Rattle.sil_base.specs.Units.{AllUnits, tapes_of}
+use Rattle.unit_io.specs.Tapes.{Tapes, all_told, finished_tapes, failed_finishes}
+use Rattle.unit_io.specs.Units.{AllUnits, tapes_of}
 use Rattle.sil_base.specs.declared.sink.Put.{Put}
 use Rattle.sil_base.specs.declared.sink.Put.TheVariants as put
-use Rattle.layout_params.specs.Parameters.{Settings}
+use Rattle.layout_params.specs.Parameters.{Parameters}
 use Rattle.layout_params.specs.Entries.{values_of}
 use Rattle.sil_cards.specs.Readings.{cards_of}
 use Rattle.sil_model.specs.declared.end.End.{End}
@@ -22,8 +22,10 @@ use Rattle.sil_cli.specs.declared.ending.Ending.TheVariants as ending
 use Rattle.sil_cli.specs.Answer.{Answers, Finishes}
 use Rattle.sil_cli.specs.Endings.{status_of, is_free_end, stop_by}
 use Rattle.sil_cli.specs.Headline.{HasJob, FinishesTapes, Reports, Does, Headline}
-use Rattle.sil_cli.specs.Inputs.{input_limit, Cards, on_result, and_then, source_by, inputs_of, unless_faulty, parameters_by, job_in, job_at}
-use Rattle.sil_cli.specs.Files.{loaded, of_file}
+use Rattle.sil_base.specs.declared.limits.TheConstants.{MAX_FILE_BYTES}
+use Rattle.sil_cli.specs.Inputs.{Cards, on_result, and_then, source_by, inputs_of, unless_faulty, parameters_by, job_in, job_at}
+use Rattle.sil_base.specs.Loads.{of_file, stopping}
+use Rattle.sil_cli.specs.Files.{loaded, stop_by_load}
 use Rattle.sil_cli.specs.Noted.{Noted, settled}
 use Rattle.sil_cli.specs.Report.{Comes, EndingCause, ran, has_run, text_of, finish_status}
 use Rattle.sil_cli.specs.Words.{Order}
@@ -34,43 +36,43 @@ use Rattle.sil_cli.proofs.Codes.{free-of, store-of, twelve-stays}
 is-within : (a b : ℕ) → a ≤ b → nat_le a b ≡ true
 is-within a b h = grind (arith, nat_tests)
 
-loads : (m : Files) (name bytes : List ℕ) → get m name ≡ Some bytes → length bytes ≤ input_limit → loaded m name input_limit ≡ Ok bytes
+loads : (m : Files) (name bytes : List ℕ) → get m name ≡ Some bytes → length bytes ≤ MAX_FILE_BYTES → loaded m name MAX_FILE_BYTES ≡ Ok bytes
 loads m name bytes is short =
-    let test : nat_le (length bytes) input_limit ≡ true = is-within (length bytes) input_limit short in
-    ap (λ o. of_file o name input_limit) is ∙ (rw test refl)
+    let test : nat_le (length bytes) MAX_FILE_BYTES ≡ true = is-within (length bytes) MAX_FILE_BYTES short in
+    ap (λ o. stopping stop_by_load (of_file o name MAX_FILE_BYTES)) is ∙ (rw test refl)
 
 then-ok : {T U E : Type 0} (r : Result T E) (x : T) (next : T → Result U E) → r ≡ Ok x → and_then r next ≡ next x
 then-ok r x next e = rw e refl
 
-inputs-of-files : (order : Order) (m : Files) (program : Program) (settings : Settings) → (h : HasJob order m program settings) → inputs_of order m ≡ Ok (record { params = h.params; tables = h.tables; source = Cards h.cards })
-inputs-of-files order m program settings h =
-    then-ok (loaded m order.params input_limit) h.params _ (loads m order.params h.params h.params_file h.params_size)
-    ∙ then-ok (loaded m order.tables input_limit) h.tables _ (loads m order.tables h.tables h.tables_file h.tables_size)
+inputs-of-files : (order : Order) (m : Files) (program : Program) (parameters : Parameters) → (h : HasJob order m program parameters) → inputs_of order m ≡ Ok (record { params = h.params; tables = h.tables; source = Cards h.cards })
+inputs-of-files order m program parameters h =
+    then-ok (loaded m order.params MAX_FILE_BYTES) h.params _ (loads m order.params h.params h.params_file h.params_size)
+    ∙ then-ok (loaded m order.tables MAX_FILE_BYTES) h.tables _ (loads m order.tables h.tables h.tables_file h.tables_size)
     ∙ then-ok (source_by (cards_of m order.source)) (Cards h.cards) _ (ap source_by h.source)
 
-job-of-inputs : (order : Order) (m : Files) (program : Program) (settings : Settings) → (h : HasJob order m program settings) → job_in (record { params = h.params; tables = h.tables; source = Cards h.cards }) ≡ Ok (record { program = program; settings = settings })
+job-of-inputs : (order : Order) (m : Files) (program : Program) (parameters : Parameters) → (h : HasJob order m program parameters) → job_in (record { params = h.params; tables = h.tables; source = Cards h.cards }) ≡ Ok (record { program = program; parameters = parameters })
 unfolding job_in
-job-of-inputs order m program settings h =
+job-of-inputs order m program parameters h =
     then-ok (parameters_by h.params) (values_of h.params) _ (ap (λ o. unless_faulty o (values_of h.params)) h.faultless)
-    ∙ ap (λ r. on_result r (λ program. Ok (record { program = program; settings = (values_of h.params).settings })) (λ e. Err (stop_by e))) h.checked
-    ∙ ap (λ s. Ok (record { program = program; settings = s })) h.values
+    ∙ ap (λ r. on_result r (λ program. Ok (record { program = program; parameters = values_of h.params })) (λ e. Err (stop_by e))) h.checked
+    ∙ ap (λ p. Ok (record { program = program; parameters = p })) h.values
 
-pub job-of-files : (order : Order) (m : Files) (program : Program) (settings : Settings) → HasJob order m program settings → job_at order m ≡ Ok (record { program = program; settings = settings })
-job-of-files order m program settings h =
-    then-ok (inputs_of order m) _ _ (inputs-of-files order m program settings h) ∙ job-of-inputs order m program settings h
+pub job-of-files : (order : Order) (m : Files) (program : Program) (parameters : Parameters) → HasJob order m program parameters → job_at order m ≡ Ok (record { program = program; parameters = parameters })
+job-of-files order m program parameters h =
+    then-ok (inputs_of order m) _ _ (inputs-of-files order m program parameters h) ∙ job-of-inputs order m program parameters h
 
 -- ---- the run
 
 -- a stage of a run that has an end
-record Stands (order : Order) (m : Files) (program : Program) (settings : Settings) (end : End) (tapes tapes' : Tapes) (came : Ending) (files' : Option Files) (image : List ℕ) : Type 0 where
-  pub installed : IsInstalled image program settings
+record Stands (order : Order) (m : Files) (program : Program) (parameters : Parameters) (end : End) (tapes tapes' : Tapes) (came : Ending) (files' : Option Files) (image : List ℕ) : Type 0 where
+  pub installed : IsInstalled image program parameters
   pub ends : came ≡ ending.Ran (as_end end)
   pub files : files' ≡ Some (insert m order.image image)
   pub leaves : tapes' ≡ tapes
 
-stands : (order : Order) (m : Files) (program : Program) (settings : Settings) (end : End) (tapes tapes' : Tapes) (came : Ending) (files' : Option Files) → job_at order m ≡ Ok (record { program = program; settings = settings }) → (machine program settings tapes order.steps).end ≡ Some end → (c : Comes (Some order) m tapes came files' tapes') → Stands order m program settings end (machine program settings tapes order.steps).tapes tapes' came files' c.image
-stands order m program settings end tapes tapes' came files' is ends c =
-    let stage : IfSome (ran (machine program settings tapes order.steps) (insert m order.image c.image)) (λ s. (came ≡ s.ending) × (files' ≡ Some s.files) × (tapes' ≡ s.tapes)) = rw is at c.stage in
+stands : (order : Order) (m : Files) (program : Program) (parameters : Parameters) (end : End) (tapes tapes' : Tapes) (came : Ending) (files' : Option Files) → job_at order m ≡ Ok (record { program = program; parameters = parameters }) → (machine program parameters tapes order.steps).end ≡ Some end → (c : Comes (Some order) m tapes came files' tapes') → Stands order m program parameters end (machine program parameters tapes order.steps).tapes tapes' came files' c.image
+stands order m program parameters end tapes tapes' came files' is ends c =
+    let stage : IfSome (ran (machine program parameters tapes order.steps) (insert m order.image c.image)) (λ s. (came ≡ s.ending) × (files' ≡ Some s.files) × (tapes' ≡ s.tapes)) = rw is at c.stage in
     let at_end = rw ends at stage in
     record { installed = rw is at c.installed; ends = at_end.0; files = at_end.1; leaves = at_end.2 }
 
@@ -94,12 +96,12 @@ free-twelve came b a cause calm (inl ten) = absurd (calm (store-of came b a caus
 free-twelve came b a cause calm (inr twelve) = twelve
 
 module _ {words : Option Order} {code : ℕ} {files files' : Option Files} {b a : ℕ} {units units' : AllUnits} {text text' : Option (List ℕ)} {n n' : ℕ} (h : Answers words code files files' b a units units' text text' n n') where
-  does : (order : Order) (m : Files) (program : Program) (settings : Settings) (end : End) → job_at order m ≡ Ok (record { program = program; settings = settings }) → (machine program settings (tapes_of units) order.steps).end ≡ Some end → Comes (Some order) m (tapes_of units) h.ending files' (tapes_of h.between)
+  does : (order : Order) (m : Files) (program : Program) (parameters : Parameters) (end : End) → job_at order m ≡ Ok (record { program = program; parameters = parameters }) → (machine program parameters (tapes_of units) order.steps).end ≡ Some end → Comes (Some order) m (tapes_of units) h.ending files' (tapes_of h.between)
       → (code ≡ 12) ⊎ ((Rose n n' → ⊥) → Reports end h.failed code text text')
-      → (code ≡ 12) ⊎ Does order m program settings end (machine program settings (tapes_of units) order.steps).tapes code files' units' text text' n n'
-  does order m program settings end is ends comes (inl twelve) = inl twelve
-  does order m program settings end is ends comes (inr reported) =
-      let s = stands order m program settings end (tapes_of units) (tapes_of h.between) h.ending files' is ends comes in
+      → (code ≡ 12) ⊎ Does order m program parameters end (machine program parameters (tapes_of units) order.steps).tapes code files' units' text text' n n'
+  does order m program parameters end is ends comes (inl twelve) = inl twelve
+  does order m program parameters end is ends comes (inr reported) =
+      let s = stands order m program parameters end (tapes_of units) (tapes_of h.between) h.ending files' is ends comes in
       inr (record {
         image = comes.image;
         installed = s.installed;
@@ -109,15 +111,15 @@ module _ {words : Option Order} {code : ℕ} {files files' : Option Files} {b a 
         reports = reported;
       })
 
-  by-free : (order : Order) (m : Files) (program : Program) (settings : Settings) (end : End) → job_at order m ≡ Ok (record { program = program; settings = settings }) → (Rose b a → ⊥) → (machine program settings (tapes_of units) order.steps).end ≡ Some end → (free : Bool) → is_free_end h.ending ≡ free → (is_free_end h.ending ≡ false → Comes (Some order) m (tapes_of units) h.ending files' (tapes_of h.between))
-      → (code ≡ 12) ⊎ Does order m program settings end (machine program settings (tapes_of units) order.steps).tapes code files' units' text text' n n'
-  by-free order m program settings end is calm ends true e told =
+  by-free : (order : Order) (m : Files) (program : Program) (parameters : Parameters) (end : End) → job_at order m ≡ Ok (record { program = program; parameters = parameters }) → (Rose b a → ⊥) → (machine program parameters (tapes_of units) order.steps).end ≡ Some end → (free : Bool) → is_free_end h.ending ≡ free → (is_free_end h.ending ≡ false → Comes (Some order) m (tapes_of units) h.ending files' (tapes_of h.between))
+      → (code ≡ 12) ⊎ Does order m program parameters end (machine program parameters (tapes_of units) order.steps).tapes code files' units' text text' n n'
+  by-free order m program parameters end is calm ends true e told =
       inl (twelve-stays h.put (status_of h.ending) h.failed code (free-twelve h.ending b a h.performs.causes.cause calm (free-of h.ending b a h.performs.causes.cause e)) h.status)
-  by-free order m program settings end is calm ends false e told =
+  by-free order m program parameters end is calm ends false e told =
       let c = told e in
-      let s = stands order m program settings end (tapes_of units) (tapes_of h.between) h.ending files' is ends c in
-      does order m program settings end is ends c (reports h.put end h.ending h.failed code text text' n n' s.ends h.noted h.status)
+      let s = stands order m program parameters end (tapes_of units) (tapes_of h.between) h.ending files' is ends c in
+      does order m program parameters end is ends c (reports h.put end h.ending h.failed code text text' n n' s.ends h.noted h.status)
 
   pub headline : Headline words code files files' b a units units' text text' n n'
-  headline = λ order m program settings end accepted told has calm ends.
-      by-free order m program settings end (job-of-files order m program settings has) calm ends (is_free_end h.ending) refl (rw accepted at (rw told at h.performs.told))
+  headline = λ order m program parameters end accepted told has calm ends.
+      by-free order m program parameters end (job-of-files order m program parameters has) calm ends (is_free_end h.ending) refl (rw accepted at (rw told at h.performs.told))

@@ -3,8 +3,8 @@ use Rattle.std.specs.Prelude.{◌≡◌, ◌≢◌, ◌⊎◌, ℕ, List, Option
 use Rattle.std.specs.declared.result.Result.TheVariants.{Err}
 use Rattle.sil_base.specs.Files.{Files}
 use Rattle.sil_base.specs.declared.sink.Put.{Put}
-use Rattle.sil_base.specs.Tapes.{all_told, finished_tapes, failed_finishes}
-use Rattle.sil_base.specs.Units.{AllUnits, tapes_of, FinishesAll}
+use Rattle.unit_io.specs.Tapes.{all_told, finished_tapes, failed_finishes}
+use Rattle.unit_io.specs.Units.{AllUnits, tapes_of, FinishesAll}
 use Rattle.sil_cli.specs.declared.ending.Ending.{Ending}
 use Rattle.sil_cli.specs.declared.ending.Ending.TheVariants as ending
 use Rattle.sil_cli.specs.Endings.{status_of, is_free, is_free_end}

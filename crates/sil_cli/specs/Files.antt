@@ -1,22 +1,35 @@
 -- Files that a command reads and writes.
-use Rattle.std.specs.Prelude.{◌≡◌, ℕ, List, length, Option, Some, None, if◌then◌else◌, nat_le}
+use Rattle.std.specs.Prelude.{◌≡◌, ℕ, List, Option, Some}
 use Rattle.std.specs.declared.result.Result.{Result}
 use Rattle.std.specs.declared.result.Result.TheVariants.{Ok, Err}
-use Rattle.std.specs.FinMap.{get, insert}
+use Rattle.std.specs.FinMap.{insert}
 use Rattle.sil_base.specs.Causes.{Rose}
 use Rattle.sil_base.specs.Files.{Files}
 use Rattle.sil_base.specs.Stores.{ChangesFile}
+use Rattle.sil_base.specs.Loads as loads
+use Rattle.sil_base.specs.Loads.{stopping}
+use Rattle.sil_base.specs.declared.loading.LoadStop.{LoadStop}
+use Rattle.sil_base.specs.declared.loading.LoadStop.TheVariants as load
 use Rattle.sil_cli.specs.declared.ending.Stop.{Stop}
 use Rattle.sil_cli.specs.declared.ending.Stop.TheVariants as stop
 
--- the bytes of a file, or the stop that names it
-abbrev pub of_file : Option (List ℕ) → List ℕ → ℕ → Result (List ℕ) Stop
-of_file None name limit = Err (stop.Missing name)
-of_file (Some bytes) name limit = if nat_le (length bytes) limit then Ok bytes else Err (stop.TooLong name)
+-- the stop where a file can't be loaded
+abbrev pub stop_by_load : LoadStop → Stop
+stop_by_load (load.Missing name) = stop.Missing name
+stop_by_load (load.TooLong name) = stop.TooLong name
+stop_by_load (load.Failed name) = stop.StoreFault name
+stop_by_load load.Memory = stop.Memory
 
--- what is loaded of these files
+-- what is loaded of these files, or the stop that names the file
 abbrev pub loaded : Files → List ℕ → ℕ → Result (List ℕ) Stop
-loaded files name limit = of_file (get files name) name limit
+loaded files name limit = stopping stop_by_load (loads.loaded files name limit)
+
+-- a stop at a file names the one that was asked for
+abbrev pub NamesFile : List ℕ → Stop → Type 0
+NamesFile asked (stop.Missing name) = name ≡ asked
+NamesFile asked (stop.TooLong name) = name ≡ asked
+NamesFile asked (stop.StoreFault name) = name ≡ asked
+NamesFile asked _ = Unit {0}
 
 -- a stop by a store fault comes only where the store's count rose, and the image that is run is never refused
 abbrev pub StopCause : Stop → ℕ → ℕ → Type 0

@@ -4,9 +4,9 @@ use Rattle.std.specs.declared.result.Result.TheVariants.{Ok}
 use Rattle.std.specs.FinMap.{get, insert}
 use Rattle.sil_base.specs.Causes.{Rose}
 use Rattle.sil_base.specs.Files.{Files}
-use Rattle.sil_base.specs.Tapes.{Tapes, all_told, finished_tapes, failed_finishes}
-use Rattle.sil_base.specs.Units.{AllUnits, tapes_of}
-use Rattle.layout_params.specs.Parameters.{Settings}
+use Rattle.unit_io.specs.Tapes.{Tapes, all_told, finished_tapes, failed_finishes}
+use Rattle.unit_io.specs.Units.{AllUnits, tapes_of}
+use Rattle.layout_params.specs.Parameters.{Parameters}
 use Rattle.layout_params.specs.Entries.{values_of}
 use Rattle.layout_params.specs.Faults.{parameter_fault}
 use Rattle.sil_cards.specs.CardParts.{CardParts}
@@ -19,20 +19,20 @@ use Rattle.sil_check.specs.Verdicts.{verdict}
 use Rattle.sil_install.specs.Installed.{IsInstalled}
 use Rattle.sil_cli.specs.declared.ending.Ending.TheVariants as ending
 use Rattle.sil_cli.specs.Endings.{run_status}
-use Rattle.sil_cli.specs.Inputs.{input_limit}
+use Rattle.sil_base.specs.declared.limits.TheConstants.{MAX_FILE_BYTES}
 use Rattle.sil_cli.specs.Report.{text_of, finish_status}
 use Rattle.sil_cli.specs.Words.{Order}
 
--- the files of an order: legal parameters with these settings, tables, and a source whose cards have no fault and pass the check with this program
-pub record HasJob (order : Order) (files : Files) (program : Program) (settings : Settings) : Type 0 where
+-- the files of an order: legal parameters with these values, tables, and a source whose cards have no fault and pass the check with this program
+pub record HasJob (order : Order) (files : Files) (program : Program) (parameters : Parameters) : Type 0 where
   pub params : List ℕ
   pub params_file : get files order.params ≡ Some params
-  pub params_size : length params ≤ input_limit
+  pub params_size : length params ≤ MAX_FILE_BYTES
   pub faultless : parameter_fault params ≡ None
-  pub values : (values_of params).settings ≡ settings
+  pub values : values_of params ≡ parameters
   pub tables : List ℕ
   pub tables_file : get files order.tables ≡ Some tables
-  pub tables_size : length tables ≤ input_limit
+  pub tables_size : length tables ≤ MAX_FILE_BYTES
   pub cards : List CardParts
   pub source : cards_of files order.source ≡ Ok cards
   pub checked : verdict cards tables (values_of params) ≡ Ok program
@@ -48,9 +48,9 @@ pub record Reports (end : End) (failed code : ℕ) (text text' : Option (List �
   pub noted : IfSome text (λ t. text' ≡ Some (t ++ text_of (ending.Ran (as_end end)) failed))
 
 -- the image that is saved is installed, and the run, the status and the notes are the machine's
-pub record Does (order : Order) (m : Files) (program : Program) (settings : Settings) (end : End) (tapes : Tapes) (code : ℕ) (files' : Option Files) (units' : AllUnits) (text text' : Option (List ℕ)) (n n' : ℕ) : Type 0 where
+pub record Does (order : Order) (m : Files) (program : Program) (parameters : Parameters) (end : End) (tapes : Tapes) (code : ℕ) (files' : Option Files) (units' : AllUnits) (text text' : Option (List ℕ)) (n n' : ℕ) : Type 0 where
   pub image : List ℕ
-  pub installed : IsInstalled image program settings
+  pub installed : IsInstalled image program parameters
   pub files : files' ≡ Some (insert m order.image image)
   pub failed : ℕ
   pub finishes : all_told tapes ≡ true → FinishesTapes tapes units' failed
@@ -59,6 +59,6 @@ pub record Does (order : Order) (m : Files) (program : Program) (settings : Sett
 -- where the words are accepted, the files have a program, the machine's run ends, and the store doesn't fail, that is done, or memory ran out
 abbrev pub Headline : Option Order → ℕ → Option Files → Option Files → ℕ → ℕ → AllUnits → AllUnits → Option (List ℕ) → Option (List ℕ) → ℕ → ℕ → Type 0
 Headline words code files files' b a units units' text text' n n' =
-    (order : Order) (m : Files) (program : Program) (settings : Settings) (end : End) → words ≡ Some order → files ≡ Some m → HasJob order m program settings → (Rose b a → ⊥)
-    → let run = machine program settings (tapes_of units) order.steps in run.end ≡ Some end
-    → (code ≡ 12) ⊎ Does order m program settings end run.tapes code files' units' text text' n n'
+    (order : Order) (m : Files) (program : Program) (parameters : Parameters) (end : End) → words ≡ Some order → files ≡ Some m → HasJob order m program parameters → (Rose b a → ⊥)
+    → let run = machine program parameters (tapes_of units) order.steps in run.end ≡ Some end
+    → (code ≡ 12) ⊎ Does order m program parameters end run.tapes code files' units' text text' n n'

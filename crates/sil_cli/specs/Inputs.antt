@@ -1,10 +1,11 @@
 -- The files that a program is installed from.
 use Rattle.std.specs.Prelude.{ℕ, List, Option, Some, None}
+use Rattle.sil_base.specs.declared.limits.TheConstants.{MAX_FILE_BYTES}
 use Rattle.std.specs.declared.result.Result.{Result}
 use Rattle.std.specs.declared.result.Result.TheVariants.{Ok, Err}
 use Rattle.sil_base.specs.Files.{Files}
 use Rattle.sil_base.specs.declared.line.Fault.{Fault}
-use Rattle.layout_params.specs.Parameters.{Settings, Parameters}
+use Rattle.layout_params.specs.Parameters.{Parameters}
 use Rattle.layout_params.specs.Entries.{values_of}
 use Rattle.layout_params.specs.Faults.{parameter_fault}
 use Rattle.sil_cards.specs.CardParts.{CardParts}
@@ -19,10 +20,6 @@ use Rattle.sil_cli.specs.Endings.{stop_by}
 use Rattle.sil_cli.specs.Words.{Order}
 use Rattle.sil_cli.specs.Files.{loaded}
 
--- the most bytes of each
-abbrev pub input_limit : ℕ
-input_limit = 2097152
-
 -- what a source and its copies come to: cards, or the faults of their lines
 pub data Source : Type 0 where
   Cards : List CardParts → Source
@@ -34,10 +31,10 @@ pub record Inputs : Type 0 where
   pub tables : List ℕ
   pub source : Source
 
--- a program, and what its image keeps of the parameters
+-- a program and its parameters
 pub record Job : Type 0 where
   pub program : Program
-  pub settings : Settings
+  pub parameters : Parameters
 
 -- a value, or the stop that came first
 abbrev pub on_result : {T E X : Type 0} → Result T E → (T → X) → (E → X) → X
@@ -64,8 +61,8 @@ source_by r = on_result r (λ cards. Ok (Cards cards)) refused_source
 -- what is loaded of these files, or the stop of the first that can't be had
 abbrev pub inputs_of : Order → Files → Result Inputs Stop
 inputs_of order files =
-    and_then (loaded files order.params input_limit) (λ params.
-    and_then (loaded files order.tables input_limit) (λ tables.
+    and_then (loaded files order.params MAX_FILE_BYTES) (λ params.
+    and_then (loaded files order.tables MAX_FILE_BYTES) (λ tables.
     and_then (source_by (cards_of files order.source)) (λ source.
     Ok (record { params = params; tables = tables; source = source }))))
 
@@ -83,14 +80,14 @@ abbrev pub cards_by : Source → Result (List CardParts) Stop
 cards_by (Cards cards) = Ok cards
 cards_by (Faulty faults) = Err (stop.Faults faults)
 
--- the program of cards and the settings, or what the check says of them
+-- the program of cards and the parameters, or what the check says of them
 abbrev pub job_of : Parameters → List ℕ → List CardParts → Result Job Stop
-job_of p tables cards = on_result (verdict cards tables p) (λ program. Ok (record { program = program; settings = p.settings })) (λ e. Err (stop_by e))
+job_of p tables cards = on_result (verdict cards tables p) (λ program. Ok (record { program = program; parameters = p })) (λ e. Err (stop_by e))
 
 -- the fault of the parameters comes first, then the faults of the cards, then what the check says
 unfoldable pub job_in : Inputs → Result Job Stop
 job_in inputs = and_then (parameters_by inputs.params) (λ p. and_then (cards_by inputs.source) (job_of p inputs.tables))
 
--- the program and the settings that an order's files give, or the stop
+-- the program and the parameters that an order's files give, or the stop
 abbrev pub job_at : Order → Files → Result Job Stop
 job_at order files = and_then (inputs_of order files) job_in

@@ -4,10 +4,10 @@ use Rattle.std.specs.declared.result.Result.TheVariants.{Err}
 use Rattle.std.specs.FinMap.{insert}
 use Rattle.sil_base.specs.Files.{Files}
 use Rattle.sil_base.specs.Stores.{ChangesFile}
-use Rattle.sil_base.specs.Tapes.{Tapes}
+use Rattle.unit_io.specs.Tapes.{Tapes}
 use Rattle.sil_model.specs.declared.end.End.{End}
 use Rattle.sil_model.specs.Machine.{machine}
-use Rattle.sil_model.specs.Runs.{Run}
+use Rattle.unit_io.specs.Runs.{Run}
 use Rattle.rv_emit.specs.Ways.{as_end}
 use Rattle.sil_install.specs.Installed.{IsInstalled}
 use Rattle.sil_cli.specs.declared.ending.Stop.{Stop}
@@ -36,7 +36,7 @@ ran r files = option_map (λ end. record { ending = ending.Ran (as_end end); fil
 -- `go SRC TABLES PARAMS IMAGE N`, which saves these bytes as the image and runs them
 abbrev pub go_command : Order → Files → Tapes → List ℕ → Option Stage
 go_command order files tapes image =
-    on_result (job_at order files) (λ job. ran (machine job.program job.settings tapes order.steps) (insert files order.image image)) (stopped files tapes)
+    on_result (job_at order files) (λ job. ran (machine job.program job.parameters tapes order.steps) (insert files order.image image)) (stopped files tapes)
 
 -- any words
 abbrev pub stage_of : Option Order → Files → Tapes → List ℕ → Option Stage
@@ -45,12 +45,17 @@ stage_of (Some order) files tapes image = go_command order files tapes image
 
 -- the image of an order whose files give a program is an installed one
 abbrev pub HasInstalled : Option Order → Files → List ℕ → Type 0
-HasInstalled order files image = IfSome order (λ o. IfOk (job_at o files) (λ job. IsInstalled image job.program job.settings))
+HasInstalled order files image = IfSome order (λ o. IfOk (job_at o files) (λ job. IsInstalled image job.program job.parameters))
+
+-- where the order's files give a program, the image is saved, whatever the units tell
+abbrev pub Saves : Option Order → Files → List ℕ → Option Files → Type 0
+Saves order files image files' = IfSome order (λ o. IfOk (job_at o files) (λ job. files' ≡ Some (insert files o.image image)))
 
 -- a command ends as its stage says, with some installed image
 pub record Comes (order : Option Order) (files : Files) (tapes : Tapes) (end : Ending) (files' : Option Files) (tapes' : Tapes) : Type 0 where
   pub image : List ℕ
   pub installed : HasInstalled order files image
+  pub saves : Saves order files image files'
   pub stage : IfSome (stage_of order files tapes image) (λ s. (end ≡ s.ending) × (files' ≡ Some s.files) × (tapes' ≡ s.tapes))
 
 -- however a command ends, the image's file alone may have changed, and that only where the order's files give a program

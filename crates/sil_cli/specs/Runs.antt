@@ -1,15 +1,19 @@
 -- Runs of an image's bytes.
-use Rattle.std.specs.Prelude.{◌≡◌, ℕ, List, Some}
-use Rattle.sil_base.specs.Tapes.{Tapes}
+use Rattle.std.specs.Prelude.{◌≡◌, ℕ, List, Some, is_some, true}
+use Rattle.unit_io.specs.Tapes.{Tapes}
 use Rattle.image_file.specs.Image.{Image, IsImage}
 use Rattle.image_file.specs.Spelling.{spelling}
 use Rattle.rv_emulate.specs.declared.end.CpuEnd.{CpuEnd}
 use Rattle.rv_emulate.specs.Runs.{emulation, budget}
 
--- the image's run under its budget ends so, and leaves these tapes
+-- the image's run under its budget has an end: it came to no unit that doesn't tell its tape
+abbrev pub IsTold : Image → Tapes → ℕ → Type 0
+IsTold image tapes n = is_some (emulation image tapes n (budget image n)).end ≡ true
+
+-- where it has one it ends so, and leaves these tapes
 pub record RunsSo (image : Image) (n : ℕ) (end : CpuEnd) (tapes tapes' : Tapes) : Type 0 where
-  pub ends : (emulation image tapes n (budget image n)).end ≡ Some end
-  pub leaves : tapes' ≡ (emulation image tapes n (budget image n)).tapes
+  pub ends : IsTold image tapes n → (emulation image tapes n (budget image n)).end ≡ Some end
+  pub leaves : IsTold image tapes n → tapes' ≡ (emulation image tapes n (budget image n)).tapes
 
 -- of whatever image these bytes are the spelling
 abbrev pub RunsBytes : List ℕ → ℕ → CpuEnd → Tapes → Tapes → Type 0

@@ -1,5 +1,6 @@
 -- The words of a command.
 use Rattle.std.specs.Prelude.{ℕ, ◌+◌, ◌-◌, ◌*◌, ◌^◌, List, [], ◌∷◌, length, Option, Some, None, Bool, false, ◌&&◌, not, if◌then◌else◌, ◌==◌, nat_le, nat_eq, codes}
+use Rattle.sil_base.specs.declared.limits.TheConstants.{MAX_STEPS}
 use Rattle.std.specs.Str.{all_ascii_digits}
 use Rattle.std.specs.Cmp.Lexicographic.{pointwise}
 
@@ -23,7 +24,7 @@ value_from n (c ∷ cs) = value_from (10 * n + (c - 48)) cs
 
 -- 1 to 13 digits with a value of at most 2^40
 abbrev pub steps_of : List ℕ → Option ℕ
-steps_of word = if nat_le 1 (length word) && nat_le (length word) 13 && all_ascii_digits word && nat_le (value_from 0 word) (2 ^ 40) then Some (value_from 0 word) else None
+steps_of word = if nat_le 1 (length word) && nat_le (length word) 13 && all_ascii_digits word && nat_le (value_from 0 word) MAX_STEPS then Some (value_from 0 word) else None
 
 -- the order, where the names of files are arguments
 abbrev pub order_with : List ℕ → List ℕ → List ℕ → List ℕ → Option ℕ → Option Order

@@ -11,6 +11,7 @@ ghost use Rattle.sil_cli.specs.Inputs.{parameters_by, cards_by, job_of, job_in};
 use crate::ending::Stop;
 use crate::inputs::{Inputs, Source};
 use layout_params::{Params, read_params};
+use sil_base::{MAX_CARDS, MAX_FILE_BYTES};
 use sil_cards::Card;
 use sil_check::check;
 use sil_model::Program;
@@ -25,7 +26,7 @@ pub struct Job {
 
 /// The parameters that a file gives.
 fn parameters(alloc: Global, params: &[u8]) -> Result<Params, Stop>
-    requires { length params.now ≤ 2097152 }
+    requires { length params.now ≤ MAX_FILE_BYTES }
     ensures told { MatchResult result
         (λ p. parameters_by params.now ≡ Ok p)
         (λ e. is_free e ≡ false → parameters_by params.now ≡ Err e) }
@@ -40,7 +41,7 @@ fn cards_of(source: Source) -> Result<Vec<Card>, Stop>
     ensures cards { MatchResult result
         (λ v. cards_by (source_held source) ≡ Ok v.items)
         (λ e. cards_by (source_held source) ≡ Err e) }
-    ensures few { IfOk result (λ v. length v.items ≤ 40000) }
+    ensures few { IfOk result (λ v. length v.items ≤ MAX_CARDS) }
     ensures good { IfOk result (λ v. AreCards v.items) }
     ensures cause { IfErr result IsCheckStop }
 {
@@ -53,16 +54,16 @@ fn cards_of(source: Source) -> Result<Vec<Card>, Stop>
 /// The program of cards and tables.
 fn program_of(
     alloc: Global,
-    cards: &[Card],
+    cards: Vec<Card>,
     tables: &[u8],
     params: &Params,
 ) -> Result<Program, Stop>
-    requires few { length cards.now ≤ 40000 }
-    requires good { AreCards cards.now }
+    requires few { length cards.items ≤ MAX_CARDS }
+    requires good { AreCards cards.items }
     ensures told { MatchResult result
-        (λ p. job_of params.now tables.now cards.now
-        ≡ Ok (record { program = p; settings = params.now.settings }))
-        (λ e. is_free e ≡ false → job_of params.now tables.now cards.now ≡ Err e) }
+        (λ p. job_of params.now tables.now cards.items
+        ≡ Ok (record { program = p; parameters = params.now }))
+        (λ e. is_free e ≡ false → job_of params.now tables.now cards.items ≡ Err e) }
     ensures can_emit { IfOk result (λ p. CanEmit p params.now.settings) }
     ensures cause { IfErr result IsCheckStop }
 {
@@ -72,7 +73,7 @@ fn program_of(
 /// The program of inputs, and its parameters.
 #[tactic(auto, unfolding(crate::specs::Inputs::job_in))]
 pub fn make_job(alloc: Global, inputs: Inputs) -> Result<Job, Stop>
-    requires short { length inputs.params.items ≤ 2097152 }
+    requires short { length inputs.params.items ≤ MAX_FILE_BYTES }
     requires read { AreRead inputs.source }
     ensures told { MatchResult result
         (λ j. job_in (inputs_by inputs) ≡ Ok (job_by j))
@@ -87,17 +88,17 @@ pub fn make_job(alloc: Global, inputs: Inputs) -> Result<Job, Stop>
     } = inputs;
     let params = parameters(alloc, &params)?;
     let cards = cards_of(source)?;
-    let program = program_of(alloc, &cards, &tables, &params)?;
+    let program = program_of(alloc, cards, &tables, &params)?;
     Ok(Job { program, params })
 }
 
 /// The bytes of an image of the program of these inputs.
 pub fn build(alloc: Global, inputs: Inputs) -> Result<Vec<u8>, Stop>
-    requires short { length inputs.params.items ≤ 2097152 }
+    requires short { length inputs.params.items ≤ MAX_FILE_BYTES }
     requires read { AreRead inputs.source }
     ensures told { MatchResult result
         (λ image. IsOkAnd (job_in (inputs_by inputs))
-        (λ j. IsInstalled image.items j.program j.settings))
+        (λ j. IsInstalled image.items j.program j.parameters))
         (λ e. is_free e ≡ false → job_in (inputs_by inputs) ≡ Err e) }
     ensures cause { IfErr result IsCheckStop }
 {

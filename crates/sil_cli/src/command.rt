@@ -1,7 +1,7 @@
 // The command that installs a source and runs the image.
 ghost use Rattle.std.specs.Prelude.{◌≡◌, ◌≤◌, Some, Err, false, IfSome, IfOk, IfErr, OnErr, MatchResult, IsOkAnd};
 ghost use Rattle.std.specs.FinMap.{insert};
-ghost use Rattle.sil_base.specs.Units.{tapes_of};
+ghost use Rattle.unit_io.specs.Units.{tapes_of};
 ghost use Rattle.sil_install.specs.Installed.{IsInstalled};
 ghost use Rattle.sil_cli.specs.Endings.{is_free, is_free_end, ending_of};
 ghost use Rattle.sil_cli.specs.Files.{StopCause};
@@ -16,17 +16,18 @@ use crate::inputs::load_inputs;
 use crate::order::Order;
 use crate::running::run_image;
 use rv_emulate::CpuEnd;
-use sil_base::{Store, UnitSet};
+use sil_base::Store;
 use std::alloc::Global;
+use unit_io::UnitSet;
 
 /// The bytes of an image of the program that an order's files give.
 fn prepare<S: Store>(alloc: Global, order: &Order<'_>, store: &mut S) -> Result<Vec<u8>, Stop>
     ensures told { IfSome (S.files store.old) (λ files. MatchResult result
         (λ image. IsOkAnd (job_at (order_by order.now) files)
-        (λ job. IsInstalled image.items job.program job.settings))
+        (λ job. IsInstalled image.items job.program job.parameters))
         (λ e. is_free e ≡ false → job_at (order_by order.now) files ≡ Err e)) }
     ensures installed { IfOk result (λ image. (job : Job)
-        × IsInstalled image.items job.program job.settings) }
+        × IsInstalled image.items job.program job.parameters) }
     ensures kept { S.files store.new ≡ S.files store.old }
     ensures count { S.faults store.old ≤ S.faults store.new }
     ensures cause { IfErr result (λ e. StopCause e (S.faults store.old) (S.faults store.new)) }
@@ -39,12 +40,12 @@ fn prepare<S: Store>(alloc: Global, order: &Order<'_>, store: &mut S) -> Result<
 fn install<S: Store>(alloc: Global, order: &Order<'_>, store: &mut S) -> Result<Vec<u8>, Stop>
     ensures told { IfSome (S.files store.old) (λ files. MatchResult result
         (λ image. IsOkAnd (job_at (order_by order.now) files)
-        (λ job. IsInstalled image.items job.program job.settings)
+        (λ job. IsInstalled image.items job.program job.parameters)
         × (S.files store.new ≡ Some (insert files (order_by order.now).image image.items)))
         (λ e. is_free e ≡ false → (job_at (order_by order.now) files ≡ Err e)
         × (S.files store.new ≡ Some files))) }
     ensures installed { IfOk result (λ image. (job : Job)
-        × IsInstalled image.items job.program job.settings) }
+        × IsInstalled image.items job.program job.parameters) }
     ensures leaves { IfSome (S.files store.old)
         (λ files. Keeps (order_by order.now) files (S.files store.new)) }
     ensures count { S.faults store.old ≤ S.faults store.new }

@@ -5,7 +5,7 @@ ghost use Rattle.sil_cli.specs.Endings.{status_of, stop_status, run_status};
 use image_file::ImageStop;
 use layout_params::ParamStop;
 use rv_emulate::CpuEnd;
-use sil_base::{Fault, Items, Record};
+use sil_base::{Fault, Items, LoadStop, Record};
 use sil_check::CheckStop;
 use std::alloc::AllocError;
 
@@ -92,6 +92,22 @@ impl From<AllocError> for Stop {
 
     fn from(_: AllocError) -> Stop {
         Stop::Memory
+    }
+}
+
+impl From<LoadStop> for Stop {
+    ghost use Rattle.std.specs.Prelude.{◌≡◌};
+    ghost use Rattle.sil_cli.specs.Files.{stop_by_load};
+
+    ghost from_gives = { λ c e. e ≡ stop_by_load c };
+
+    fn from(stop: LoadStop) -> Stop {
+        match stop {
+            LoadStop::Missing(name) => Stop::Missing(name),
+            LoadStop::TooLong(name) => Stop::TooLong(name),
+            LoadStop::Failed(name) => Stop::StoreFault(name),
+            LoadStop::Memory => Stop::Memory,
+        }
     }
 }
 

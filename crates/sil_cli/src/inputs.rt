@@ -10,12 +10,9 @@ ghost use Rattle.sil_cli.specs.Orders.{order_by};
 use crate::ending::Stop;
 use crate::files::load;
 use crate::order::Order;
-use sil_base::{Fault, Items, Store};
+use sil_base::{Fault, Items, MAX_FILE_BYTES, Store};
 use sil_cards::{Card, CardStop, read_cards};
 use std::alloc::Global;
-
-/// The most bytes of each file.
-const INPUT_LIMIT: u64 = 2_097_152;
 
 /// What a source and its copies come to: cards, or the faults of their lines.
 #[derive(Drop)]
@@ -61,14 +58,14 @@ pub fn load_inputs<S: Store>(
     ensures loaded { IfSome (S.files store.old) (λ files. MatchResult result
         (λ inputs. inputs_of (order_by order.now) files ≡ Ok (inputs_by inputs))
         (λ e. is_free e ≡ false → inputs_of (order_by order.now) files ≡ Err e)) }
-    ensures short { IfOk result (λ inputs. length inputs.params.items ≤ 2097152) }
+    ensures short { IfOk result (λ inputs. length inputs.params.items ≤ MAX_FILE_BYTES) }
     ensures read { IfOk result (λ inputs. AreRead inputs.source) }
     ensures kept { S.files store.new ≡ S.files store.old }
     ensures count { S.faults store.old ≤ S.faults store.new }
     ensures cause { IfErr result (λ e. StopCause e (S.faults store.old) (S.faults store.new)) }
 {
-    let params = load(alloc, store, order.params, INPUT_LIMIT)?;
-    let tables = load(alloc, store, order.tables, INPUT_LIMIT)?;
+    let params = load(alloc, store, order.params, MAX_FILE_BYTES)?;
+    let tables = load(alloc, store, order.tables, MAX_FILE_BYTES)?;
     let source = load_source(alloc, store, order.source)?;
     Ok(Inputs {
         params,

@@ -14,8 +14,9 @@ use crate::command;
 use crate::ending::{Ending, Stop};
 use crate::notes::{note_ending, note_finishes, settle};
 use crate::words::read_order;
-use sil_base::{Sink, Store, UnitSet};
+use sil_base::{Sink, Store};
 use std::alloc::Global;
+use unit_io::UnitSet;
 
 /// What the program ends with.
 #[derive(Debug, Drop)]
@@ -50,8 +51,8 @@ fn finish<U: UnitSet>(ending: &Ending, units: &mut U) -> u32
     }
 }
 
-/// A status after finishes, of which some may have failed.
-fn after_finishes(code: u8, failed: u32) -> u8
+/// A status after finishes, of which so many failed.
+pub fn after_finishes(code: u8, failed: u32) -> u8
     ensures { result ≡ finish_status code failed }
 {
     if failed != 0 && code < 10 { 11 } else { code }

@@ -1,5 +1,6 @@
 // What a command is told to do.
-ghost use Rattle.std.specs.Prelude.{◌≤◌, ◌^◌};
+ghost use Rattle.std.specs.Prelude.{◌≤◌};
+ghost use Rattle.sil_base.specs.declared.limits.TheConstants.{MAX_STEPS};
 
 /// `go SRC TABLES PARAMS IMAGE N`.
 #[derive(Drop)]
@@ -9,5 +10,5 @@ pub struct Order<'w> {
     pub params: &'w str,
     pub image: &'w str,
     pub steps: u64,
-    ghost few_steps: { steps ≤ 2 ^ 40 },
+    ghost few_steps: { steps ≤ MAX_STEPS },
 }

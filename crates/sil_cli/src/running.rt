@@ -2,14 +2,15 @@
 ghost use Rattle.std.specs.Prelude.{◌≡◌, ◌≤◌, ◌^◌, IfOk, IfErr, OnErr};
 ghost use Rattle.image_file.specs.Image.{Image, IsImage};
 ghost use Rattle.image_file.specs.Spelling.{spelling};
-ghost use Rattle.sil_base.specs.Units.{tapes_of};
+ghost use Rattle.unit_io.specs.Units.{tapes_of};
 ghost use Rattle.sil_cli.specs.Runs.{RunsSo, RunsBytes};
 
 use crate::ending::Stop;
 use image_file::{Image, load_image};
 use rv_emulate::{Cpu, CpuEnd, budget};
-use sil_base::UnitSet;
+use sil_base::MAX_STEPS;
 use std::alloc::{AllocError, Global};
+use unit_io::UnitSet;
 
 /// Runs an image for at most n statements.
 fn run<U: UnitSet>(
@@ -18,7 +19,7 @@ fn run<U: UnitSet>(
     n: u64,
     units: &mut U,
 ) -> Result<CpuEnd, AllocError>
-    requires { n ≤ 2 ^ 40 }
+    requires { n ≤ MAX_STEPS }
     ensures ran { IfOk result (λ end. RunsSo image.now n end
         (tapes_of (U.seen units.old)) (tapes_of (U.seen units.new))) }
     ensures still { OnErr result (U.seen units.new ≡ U.seen units.old) }
@@ -34,7 +35,7 @@ pub fn run_image<U: UnitSet>(
     n: u64,
     units: &mut U,
 ) -> Result<CpuEnd, Stop>
-    requires { n ≤ 2 ^ 40 }
+    requires { n ≤ MAX_STEPS }
     ensures ran { IfOk result (λ end. RunsBytes bytes.now n end
         (tapes_of (U.seen units.old)) (tapes_of (U.seen units.new))) }
     ensures accepts { (image : Image) → IsImage image → bytes.now ≡ spelling image

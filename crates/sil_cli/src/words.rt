@@ -7,9 +7,7 @@ ghost use Rattle.sil_cli.specs.Words.{order_of, steps_of, is_argument, value_fro
 ghost use Rattle.sil_cli.specs.Orders.{order_by};
 
 use crate::order::Order;
-
-/// The most steps that a run may be asked for.
-const MOST_STEPS: u64 = 1 << 40;
+use sil_base::MAX_STEPS;
 
 /// Whether all bytes are decimal digits.
 fn are_digits(bytes: &[u8]) -> bool
@@ -44,7 +42,7 @@ fn steps(word: &str) -> Option<u64>
         return None;
     }
     let steps = value_of(word);
-    (steps <= MOST_STEPS).then_some(steps)
+    (steps <= MAX_STEPS).then_some(steps)
 }
 
 /// Whether a word can stand as an argument: it is not empty and doesn't begin with a minus sign.

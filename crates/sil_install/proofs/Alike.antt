@@ -3,8 +3,8 @@ use Rattle.std.proofs.Common.{◌≡◌, ◌≢◌, ℕ, zero, suc, ◌+◌, ◌
 use Rattle.std.proofs.lemmas.Bool.{cases_lt}
 use Rattle.std.proofs.lemmas.Option.{slice_get_within, get_or_from_slice_get}
 use Rattle.std.specs.Prelude.{slice_get, option_map}
-use Rattle.sil_base.specs.Tapes.{Tapes}
-use Rattle.layout_params.specs.Parameters.{Settings}
+use Rattle.unit_io.specs.Tapes.{Tapes}
+use Rattle.layout_params.specs.Parameters.{Settings, Parameters}
 use Rattle.sil_model.specs.declared.end.End.{End}
 use Rattle.sil_model.specs.declared.end.End.TheVariants.{Exit, Trap, Undefined, UnitFault, Budget, Memory}
 use Rattle.sil_model.specs.declared.program.Program.{Program}
@@ -18,7 +18,7 @@ use Rattle.sil_model.specs.Costs.{cost}
 use Rattle.sil_model.specs.Valid.{IsValid, IsSteady}
 use Rattle.sil_model.specs.Prints.{writes_records, IsSilent}
 use Rattle.image_file.specs.Image.{Image}
-use Rattle.image_file.specs.Parts.{IsImageOf}
+use Rattle.rv_emit.specs.Parts.{IsImageOf}
 use Rattle.rv_emulate.specs.declared.end.CpuEnd.{CpuEnd}
 use Rattle.rv_emulate.specs.declared.end.CpuEnd.TheVariants.{Fetch}
 use Rattle.rv_emulate.specs.States.{State, Outcome, On, Ended, steps_left, start}
@@ -41,7 +41,10 @@ some_statement [] i h = absurd (omega arith)
 some_statement (x ∷ xs) zero h = (x, refl)
 some_statement (x ∷ xs) (suc i) h = some_statement xs i (omega arith)
 
-module _ (image : Image) (program : Program) (settings : Settings) (last : ℕ) (steady : IsSteady program settings) (of : IsImageOf image program settings) (carries : CarriesOut image program settings last) (n : ℕ) (small : n ≤ 2 ^ 40) where
+module _ (image : Image) (program : Program) (parameters : Parameters) (last : ℕ) (steady : IsSteady program parameters) (of : IsImageOf image program parameters.settings) (carries : CarriesOut image program parameters last) (n : ℕ) (small : n ≤ 2 ^ 40) where
+  abbrev settings : Settings
+  settings = parameters.settings
+
   abbrev slot : ℕ
   slot = slot_of image
 
@@ -124,18 +127,18 @@ module _ (image : Image) (program : Program) (settings : Settings) (last : ℕ) 
   -- ---- whole runs
 
   abbrev Alike : ℕ → Type 0
-  Alike left = (m : machine.State) (s : State) (b : ℕ) → Stands m s → m.steps + left ≡ n → left * slot + 2000 ≤ b → SameRun (run_under image b s) (abstract.run program left m)
+  Alike left = (m : machine.State) (s : State) (b : ℕ) → Stands m s → m.steps + left ≡ n → left * slot + 2000 ≤ b → SameRun (run_under image b s) (abstract.run program parameters left m)
 
-  made : (left : ℕ) → Alike left → (m : machine.State) (s : State) (b : ℕ) (st : Statement) (w : Step) → Stands m s → m.steps + suc left ≡ n → suc left * slot + 2000 ≤ b → slice_get program.statements m.statement ≡ Some st → make_step st m ≡ w → Makes image settings last n (writes_records st.name) (cost st m) s w → SameRun (run_under image b s) (meet m.statement (after_step w ended (abstract.run program left)))
+  made : (left : ℕ) → Alike left → (m : machine.State) (s : State) (b : ℕ) (st : Statement) (w : Step) → Stands m s → m.steps + suc left ≡ n → suc left * slot + 2000 ≤ b → slice_get program.statements m.statement ≡ Some st → make_step program parameters st m ≡ w → Makes image settings last n (writes_records st.name) (cost program parameters st m) s w → SameRun (run_under image b s) (meet m.statement (after_step w ended (abstract.run program parameters left)))
   made left all m s b st (Ends e tapes) stands count fits is does c =
       let lt = slice_get_within program.statements m.statement st is in
-      let w = same_end (writes_records st.name) b s e tapes (cost st m) c (omega (arith, enough left slot b fits, cost_fits image program settings m st of steady is stands.valid)) in
+      let w = same_end (writes_records st.name) b s e tapes (cost program parameters st m) c (omega (arith, enough left slot b fits, cost_fits image program parameters m st of steady is stands.valid)) in
       same_run b s e tapes (m.statement ∷ []) w.0 (w.1 ∙ met_one m s stands lt (omega arith))
   made left all m s b st (Goes m') stands count fits is does (t, c, pc, rep) =
       let lt = slice_get_within program.statements m.statement st is in
       let kept = steady.keeps st m m' is stands.valid (omega arith) does in
-      let soon : suc c.more ≤ slot = omega (arith, c.soon, cost_fits image program settings m st of steady is stands.valid) in
-      let w = way_run (writes_records st.name) (cost st m) s t c b (omega (arith, enough left slot b fits)) in
+      let soon : suc c.more ≤ slot = omega (arith, c.soon, cost_fits image program parameters m st of steady is stands.valid) in
+      let w = way_run (writes_records st.name) (cost program parameters st m) s t c b (omega (arith, enough left slot b fits)) in
       let rest = all m' t (b - suc c.more) (record { valid = kept.0; pc = pc; stands = rep }) (omega (arith, kept.1)) (less left slot c.more b fits soon) in
       record {
         end = ap end_of w.0 ∙ rest.end;
@@ -147,10 +150,10 @@ module _ (image : Image) (program : Program) (settings : Settings) (last : ℕ) 
   alike_zero m s b None st count fits is = past_same b m s st is fits
   alike_zero m s b (Some x) st count fits is = bound_same b m s st (slice_get_within program.statements m.statement x is) (omega arith) fits
 
-  alike_more : (left : ℕ) → Alike left → (m : machine.State) (s : State) (b : ℕ) (o : Option Statement) → Stands m s → m.steps + suc left ≡ n → suc left * slot + 2000 ≤ b → slice_get program.statements m.statement ≡ o → SameRun (run_under image b s) (with_statement o (ended (Some (Undefined m.statement)) m.tapes) (λ statement. meet m.statement (after_step (make_step statement m) ended (abstract.run program left))))
+  alike_more : (left : ℕ) → Alike left → (m : machine.State) (s : State) (b : ℕ) (o : Option Statement) → Stands m s → m.steps + suc left ≡ n → suc left * slot + 2000 ≤ b → slice_get program.statements m.statement ≡ o → SameRun (run_under image b s) (with_statement o (ended (Some (Undefined m.statement)) m.tapes) (λ statement. meet m.statement (after_step (make_step program parameters statement m) ended (abstract.run program parameters left))))
   alike_more left all m s b None st count fits is = past_same b m s st is (omega arith)
   alike_more left all m s b (Some x) st count fits is =
-      made left all m s b x (make_step x m) st count fits is refl (carries.statement n m s x small is st.valid (omega arith) st.pc st.stands)
+      made left all m s b x (make_step program parameters x m) st count fits is refl (carries.statement n m s x small is st.valid (omega arith) st.pc st.stands)
 
   alike : (left : ℕ) → Alike left
   unfolding abstract.run
@@ -160,7 +163,7 @@ module _ (image : Image) (program : Program) (settings : Settings) (last : ℕ) 
   -- ---- where a run stops, its state stands for the machine's
 
   record Found (m m' : machine.State) (met : ℕ) (t : State) : Type 0 where
-    comes : after program met m ≡ Goes m'
+    comes : after program parameters met m ≡ Goes m'
     stands : Stands m' t
 
   abbrev Matched : machine.State → ℕ → State → Type 0
@@ -175,24 +178,24 @@ module _ (image : Image) (program : Program) (settings : Settings) (last : ℕ) 
       let same : s ≡ t = cc in
       (m, record { comes = refl; stands = subst (λ x. Stands m x) same st })
 
-  one_more : (m m' : machine.State) (x : Statement) (k : ℕ) → slice_get program.statements m.statement ≡ Some x → make_step x m ≡ Goes m' → after program (suc k) m ≡ after program k m'
+  one_more : (m m' : machine.State) (x : Statement) (k : ℕ) → slice_get program.statements m.statement ≡ Some x → make_step program parameters x m ≡ Goes m' → after program parameters (suc k) m ≡ after program parameters k m'
   unfolding after step
   one_more m m' x k is does =
-      ap (λ o. after_step (with_statement o (ends_with (Undefined m.statement) m) (λ statement. make_step statement m)) Ends (after program k)) is ∙ ap (λ w. after_step w Ends (after program k)) does
+      ap (λ o. after_step (with_statement o (ends_with (Undefined m.statement) m) (λ statement. make_step program parameters statement m)) Ends (after program parameters k)) is ∙ ap (λ w. after_step w Ends (after program parameters k)) does
 
-  found_made : (left : ℕ) → Finds left → (m : machine.State) (s : State) (i : ℕ) (t : State) (x : Statement) (w : Step) → Stands m s → m.steps + suc left ≡ n → run image (suc i) s ≡ On t → Stops image last t.pc → slice_get program.statements m.statement ≡ Some x → make_step x m ≡ w → Makes image settings last n (writes_records x.name) (cost x m) s w → Matched m (length (met image (suc i) s)) t
-  found_made left all m s i t x (Ends e tapes) st count r stop is does c = absurd (no_stop (writes_records x.name) (cost x m) s t (option_map as_end e) tapes c i r stop)
+  found_made : (left : ℕ) → Finds left → (m : machine.State) (s : State) (i : ℕ) (t : State) (x : Statement) (w : Step) → Stands m s → m.steps + suc left ≡ n → run image (suc i) s ≡ On t → Stops image last t.pc → slice_get program.statements m.statement ≡ Some x → make_step program parameters x m ≡ w → Makes image settings last n (writes_records x.name) (cost program parameters x m) s w → Matched m (length (met image (suc i) s)) t
+  found_made left all m s i t x (Ends e tapes) st count r stop is does c = absurd (no_stop (writes_records x.name) (cost program parameters x m) s t (option_map as_end e) tapes c i r stop)
   found_made left all m s i t x (Goes m') st count r stop is does (u, c, pc, rep) =
-      elim (cases_lt i c.more) [ inl lt ↦ absurd (not_between (writes_records x.name) (cost x m) s t (On u) c i lt r stop) | inr le ↦ later le ]
+      elim (cases_lt i c.more) [ inl lt ↦ absurd (not_between (writes_records x.name) (cost program parameters x m) s t (On u) c i lt r stop) | inr le ↦ later le ]
     where
       later : c.more ≤ i → Matched m (length (met image (suc i) s)) t
       later le =
           let lt = slice_get_within program.statements m.statement x is in
           let kept = steady.keeps x m m' is st.valid (omega arith) does in
-          let w = way_run (writes_records x.name) (cost x m) s u c (suc i) (omega arith) in
+          let w = way_run (writes_records x.name) (cost program parameters x m) s u c (suc i) (omega arith) in
           let rest = all m' u (suc i - suc c.more) t (record { valid = kept.0; pc = pc; stands = rep }) (omega (arith, kept.1)) (sym w.0 ∙ r) stop in
           let many : length (met image (suc i) s) ≡ suc (length (met image (suc i - suc c.more) u)) = ap length (w.1 ∙ ap (λ xs. xs ++ met image (suc i - suc c.more) u) (met_one m s st lt (omega arith))) in
-          (rest.0, record { comes = ap (λ k. after program k m) many ∙ one_more m m' x (length (met image (suc i - suc c.more) u)) is does ∙ rest.1.comes; stands = rest.1.stands })
+          (rest.0, record { comes = ap (λ k. after program parameters k m) many ∙ one_more m m' x (length (met image (suc i - suc c.more) u)) is does ∙ rest.1.comes; stands = rest.1.stands })
 
   past_stops : (m : machine.State) (s t : State) (i : ℕ) → Stands m s → slice_get program.statements m.statement ≡ None → run image (suc i) s ≡ On t → Stops image last t.pc → ⊥
   past_stops m s t i st none r stop =
@@ -208,7 +211,7 @@ module _ (image : Image) (program : Program) (settings : Settings) (last : ℕ) 
   found_more : (left : ℕ) → Finds left → (m : machine.State) (s : State) (i : ℕ) (t : State) (o : Option Statement) → Stands m s → m.steps + suc left ≡ n → slice_get program.statements m.statement ≡ o → run image (suc i) s ≡ On t → Stops image last t.pc → Matched m (length (met image (suc i) s)) t
   found_more left all m s i t None st count is r stop = absurd (past_stops m s t i st is r stop)
   found_more left all m s i t (Some x) st count is r stop =
-      found_made left all m s i t x (make_step x m) st count r stop is refl (carries.statement n m s x small is st.valid (omega arith) st.pc st.stands)
+      found_made left all m s i t x (make_step program parameters x m) st count r stop is refl (carries.statement n m s x small is st.valid (omega arith) st.pc st.stands)
 
   finds_zero : (m : machine.State) (s : State) (i : ℕ) (t : State) → Stands m s → m.steps + 0 ≡ n → run image i s ≡ On t → Stops image last t.pc → Matched m (length (met image i s)) t
   finds_zero m s zero t st count r stop = found_here m s t st r
@@ -241,15 +244,15 @@ module _ (image : Image) (program : Program) (settings : Settings) (last : ℕ) 
   abbrev Quiet : ℕ → Type 0
   Quiet left = (m : machine.State) (s : State) (i : ℕ) (t : State) → Stands m s → m.steps + left ≡ n → run image i s ≡ On t → Calls image 3 t → ⊥
 
-  quiet_made : (left : ℕ) → Quiet left → (m : machine.State) (s : State) (i : ℕ) (t : State) (x : Statement) (w : Step) → writes_records x.name ≡ false → Stands m s → m.steps + suc left ≡ n → run image i s ≡ On t → Calls image 3 t → slice_get program.statements m.statement ≡ Some x → make_step x m ≡ w → Makes image settings last n (writes_records x.name) (cost x m) s w → ⊥
-  quiet_made left all m s i t x (Ends e tapes) hush st count r h is does c = quiet_end (writes_records x.name) (cost x m) s t (option_map as_end e) tapes c i hush r h
+  quiet_made : (left : ℕ) → Quiet left → (m : machine.State) (s : State) (i : ℕ) (t : State) (x : Statement) (w : Step) → writes_records x.name ≡ false → Stands m s → m.steps + suc left ≡ n → run image i s ≡ On t → Calls image 3 t → slice_get program.statements m.statement ≡ Some x → make_step program parameters x m ≡ w → Makes image settings last n (writes_records x.name) (cost program parameters x m) s w → ⊥
+  quiet_made left all m s i t x (Ends e tapes) hush st count r h is does c = quiet_end (writes_records x.name) (cost program parameters x m) s t (option_map as_end e) tapes c i hush r h
   quiet_made left all m s i t x (Goes m') hush st count r h is does (u, c, pc, rep) =
-      elim (cases_lt i (suc c.more)) [ inl lt ↦ quiet_way (writes_records x.name) (cost x m) s t (On u) c i hush lt r h | inr le ↦ later le ]
+      elim (cases_lt i (suc c.more)) [ inl lt ↦ quiet_way (writes_records x.name) (cost program parameters x m) s t (On u) c i hush lt r h | inr le ↦ later le ]
     where
       later : suc c.more ≤ i → ⊥
       later le =
           let kept = steady.keeps x m m' is st.valid (omega arith) does in
-          let w = way_run (writes_records x.name) (cost x m) s u c i le in
+          let w = way_run (writes_records x.name) (cost program parameters x m) s u c i le in
           all m' u (i - suc c.more) t (record { valid = kept.0; pc = pc; stands = rep }) (omega (arith, kept.1)) (sym w.0 ∙ r) h
 
   quiet_past : (m : machine.State) (s t : State) (i : ℕ) → Stands m s → slice_get program.statements m.statement ≡ None → run image i s ≡ On t → Calls image 3 t → ⊥
@@ -266,7 +269,7 @@ module _ (image : Image) (program : Program) (settings : Settings) (last : ℕ) 
   quiet_more : IsSilent program → (left : ℕ) → Quiet left → (m : machine.State) (s : State) (i : ℕ) (t : State) (o : Option Statement) → Stands m s → m.steps + suc left ≡ n → slice_get program.statements m.statement ≡ o → run image i s ≡ On t → Calls image 3 t → ⊥
   quiet_more hush left all m s i t None st count is r h = quiet_past m s t i st is r h
   quiet_more hush left all m s i t (Some x) st count is r h =
-      quiet_made left all m s i t x (make_step x m) (silent_at hush m.statement x is) st count r h is refl (carries.statement n m s x small is st.valid (omega arith) st.pc st.stands)
+      quiet_made left all m s i t x (make_step program parameters x m) (silent_at hush m.statement x is) st count r h is refl (carries.statement n m s x small is st.valid (omega arith) st.pc st.stands)
 
   quiet : IsSilent program → (left : ℕ) → Quiet left
   quiet hush zero = λ m s i t st count r h. quiet_zero m s i t (slice_get program.statements m.statement) st count refl r h
@@ -291,7 +294,7 @@ module _ (image : Image) (program : Program) (settings : Settings) (last : ℕ) 
     unfolding start
     met_first = ap (λ o. listed (met_with o (steps_left s0))) carries.first_apart.0 ∙ met_none (steps_left s0)
 
-    whole : SameRun (run_under image (budget image n) s0) (abstract.run program n m0)
+    whole : SameRun (run_under image (budget image n) s0) (abstract.run program parameters n m0)
     whole =
         let c = begins.1 in
         let large = slot_large image in
@@ -373,7 +376,7 @@ module _ (image : Image) (program : Program) (settings : Settings) (last : ℕ) 
     unfolding first_state
     paced_begins = (suc begins.1.more, omega arith, begins.1.soon, (begins.0, begins.1.comes, begins.2))
 
-    made_within : (m : machine.State) (t : State) (st : Statement) (w : Step) → Stands m t → m.steps < n → slice_get program.statements m.statement ≡ Some st → make_step st m ≡ w → Makes image settings last n (writes_records st.name) (cost st m) t w → Within image (cost st m) t (Arrives image last)
+    made_within : (m : machine.State) (t : State) (st : Statement) (w : Step) → Stands m t → m.steps < n → slice_get program.statements m.statement ≡ Some st → make_step program parameters st m ≡ w → Makes image settings last n (writes_records st.name) (cost program parameters st m) t w → Within image (cost program parameters st m) t (Arrives image last)
     made_within m t st (Ends e out) stands some is does c = (suc c.more, omega arith, c.soon, subst (Arrives image last) (sym c.comes) tt)
     made_within m t st (Goes m') stands some is does (u, c, pc, rep) =
         let kept = steady.keeps st m m' is stands.valid (omega arith) does in
@@ -381,14 +384,14 @@ module _ (image : Image) (program : Program) (settings : Settings) (last : ℕ) 
         (suc c.more, omega arith, c.soon, subst (Arrives image last) (sym c.comes) stop)
 
     paced_statement : (i k : ℕ) (t : State) → run image i s0 ≡ On t → entry_at image.statements t.pc ≡ Some k → 0 < steps_left t →
-        (m : machine.State) × (after program (length (met image i s0)) m0 ≡ Goes m) × (s : Statement) × (slice_get program.statements k ≡ Some s) × Within image (cost s m) t (Arrives image last)
+        (m : machine.State) × (after program parameters (length (met image i s0)) m0 ≡ Goes m) × (s : Statement) × (slice_get program.statements k ≡ Some s) × Within image (cost program parameters s m) t (Arrives image last)
     paced_statement i k t r e some =
         let f = found i t r (inl (is_stop k (entry_at image.statements t.pc) e)) in
         let at = entered f.0 t k f.1.stands e in
         let x = some_statement program.statements f.0.statement at.0 in
         let few : f.0.steps < n = omega (arith, f.1.stands.stands.left) in
         let w = carries.statement n f.0 t x.0 small x.1 f.1.stands.valid few f.1.stands.pc f.1.stands.stands in
-        (f.0, f.1.comes, x.0, ap (λ j. slice_get program.statements j) (sym at.1) ∙ x.1, made_within f.0 t x.0 (make_step x.0 f.0) f.1.stands few x.1 refl w)
+        (f.0, f.1.comes, x.0, ap (λ j. slice_get program.statements j) (sym at.1) ∙ x.1, made_within f.0 t x.0 (make_step program parameters x.0 f.0) f.1.stands few x.1 refl w)
 
     paced_bound : (i k : ℕ) (t : State) → run image i s0 ≡ On t → entry_at image.statements t.pc ≡ Some k → steps_left t ≡ 0 → Within image 2000 t IsEnd
     paced_bound i k t r e none =
@@ -402,7 +405,7 @@ module _ (image : Image) (program : Program) (settings : Settings) (last : ℕ) 
         let k = at_last f.0 t f.1.stands e in
         ends_within t (Some (as_end (Undefined f.0.statement))) f.0.tapes (carries.past n f.0 t small k f.1.stands.valid e f.1.stands.stands)
 
-    matches : (i : ℕ) (t : State) → run image i s0 ≡ On t → Stops image last t.pc → (m : machine.State) × (after program (length (met image i s0)) m0 ≡ Goes m) × (t.pc ≡ place image last m.statement) × Represents settings n m t
+    matches : (i : ℕ) (t : State) → run image i s0 ≡ On t → Stops image last t.pc → (m : machine.State) × (after program parameters (length (met image i s0)) m0 ≡ Goes m) × (t.pc ≡ place image last m.statement) × Represents settings n m t
     matches i t r stop = let f = found i t r stop in (f.0, f.1.comes, f.1.stands.pc, f.1.stands.stands)
 
 not_fetch : (e : Option End) (pc : ℕ) → option_map as_end e ≢ Some (Fetch pc)
@@ -414,21 +417,21 @@ not_fetch (Some (UnitFault k unit)) pc = λ h. absurd (cc)
 not_fetch (Some Budget) pc = λ h. absurd (cc)
 not_fetch (Some Memory) pc = λ h. absurd (cc)
 
-runs : (image : Image) (program : Program) (settings : Settings) (last : ℕ) → IsSteady program settings → IsImageOf image program settings → CarriesOut image program settings last → RunsAlike image program settings
+runs : (image : Image) (program : Program) (parameters : Parameters) (last : ℕ) → IsSteady program parameters → IsImageOf image program parameters.settings → CarriesOut image program parameters last → RunsAlike image program parameters
 unfolding emulation
-runs image program settings last steady of carries = λ tapes n small. whole image program settings last steady of carries n small tapes
+runs image program parameters last steady of carries = λ tapes n small. whole image program parameters last steady of carries n small tapes
 
 pub law : LawOfInstalledImages
-law image program settings last steady of carries = record {
+law image program parameters last steady of carries = record {
   last = last;
-  alike = runs image program settings last steady of carries;
-  inside = λ tapes n pc small e. not_fetch (machine_run program settings tapes n).end pc (sym (runs image program settings last steady of carries tapes n small).end ∙ e);
-  silent = λ hush tapes n i t c h. silent image program settings last steady of carries n c.0 tapes hush i t c.1 h;
+  alike = runs image program parameters last steady of carries;
+  inside = λ tapes n pc small e. not_fetch (machine_run program parameters tapes n).end pc (sym (runs image program parameters last steady of carries tapes n small).end ∙ e);
+  silent = λ hush tapes n i t c h. silent image program parameters last steady of carries n c.0 tapes hush i t c.1 h;
   paced = record {
-    begins = λ tapes n small. paced_begins image program settings last steady of carries n small tapes;
-    statement = λ tapes n i k t c. paced_statement image program settings last steady of carries n c.0 tapes i k t c.1;
-    bound = λ tapes n i k t c. paced_bound image program settings last steady of carries n c.0 tapes i k t c.1;
-    past = λ tapes n i t c. paced_past image program settings last steady of carries n c.0 tapes i t c.1;
+    begins = λ tapes n small. paced_begins image program parameters last steady of carries n small tapes;
+    statement = λ tapes n i k t c. paced_statement image program parameters last steady of carries n c.0 tapes i k t c.1;
+    bound = λ tapes n i k t c. paced_bound image program parameters last steady of carries n c.0 tapes i k t c.1;
+    past = λ tapes n i t c. paced_past image program parameters last steady of carries n c.0 tapes i t c.1;
   };
-  follows = λ tapes n i t c. matches image program settings last steady of carries n c.0 tapes i t c.1;
+  follows = λ tapes n i t c. matches image program parameters last steady of carries n c.0 tapes i t c.1;
 }

@@ -2,15 +2,15 @@
 use Rattle.std.proofs.Common.{◌≡◌, ℕ, suc, ◌+◌, ◌-◌, ◌*◌, ◌≤◌, length, Some, sym, ap, ◌∙◌, subst, arith}
 use Rattle.std.proofs.lemmas.List.{length-map}
 use Rattle.std.specs.Prelude.{slice_get}
-use Rattle.layout_params.specs.Parameters.{Settings}
+use Rattle.layout_params.specs.Parameters.{Settings, Parameters}
 use Rattle.sil_model.specs.declared.program.Program.{Program}
 use Rattle.sil_model.specs.declared.program.Statement.{Statement}
 use Rattle.sil_model.specs.States as machine
-use Rattle.sil_model.specs.Start.{all_cells}
+use Rattle.layout_params.specs.Areas.{all_cells}
 use Rattle.sil_model.specs.Costs.{cost, weight, weight_limit}
 use Rattle.sil_model.specs.Valid.{IsValid, IsSteady}
 use Rattle.image_file.specs.Image.{Image}
-use Rattle.image_file.specs.Parts.{IsImageOf, kind_of}
+use Rattle.rv_emit.specs.Parts.{IsImageOf, kind_of}
 use Rattle.rv_emulate.specs.States.{cell_total}
 
 pub less : (left slot more b : ℕ) → suc left * slot + 2000 ≤ b → suc more ≤ slot → left * slot + 2000 ≤ b - suc more
@@ -37,14 +37,15 @@ pub same_cells : (image : Image) (program : Program) (settings : Settings) → I
 same_cells image program settings of =
     ap (λ s. all_cells s (length image.kinds)) of.same_settings ∙ ap (λ k. all_cells settings (length k)) of.kinds ∙ ap (λ k. all_cells settings k) (length-map program.cells kind_of)
 
-cost_below : (st : Statement) (m : machine.State) (limit : ℕ) → weight st m ≤ limit → cost st m ≤ 2000 + 400 * limit
+cost_below : (program : Program) (parameters : Parameters) (st : Statement) (m : machine.State) (limit : ℕ) → weight program parameters st m ≤ limit → cost program parameters st m ≤ 2000 + 400 * limit
 unfolding cost
-cost_below st m limit h = omega (arith, h)
+cost_below program parameters st m limit h = omega (arith, h)
 
 -- the cost of a statement is within what one statement may take
-pub cost_fits : (image : Image) (program : Program) (settings : Settings) (m : machine.State) (st : Statement) → IsImageOf image program settings → IsSteady program settings → slice_get program.statements m.statement ≡ Some st → IsValid program settings m → cost st m ≤ slot_of image
-cost_fits image program settings m st of steady is valid =
+pub cost_fits : (image : Image) (program : Program) (parameters : Parameters) (m : machine.State) (st : Statement) → IsImageOf image program parameters.settings → IsSteady program parameters → slice_get program.statements m.statement ≡ Some st → IsValid program parameters.settings m → cost program parameters st m ≤ slot_of image
+cost_fits image program parameters m st of steady is valid =
+    let settings = parameters.settings in
     let cells : length m.memory.cells ≡ cell_total image = valid.cells ∙ sym (same_cells image program settings of) in
-    let below = cost_below st m (weight_limit settings (length m.memory.cells)) (steady.bound st m is valid) in
-    let a : cost st m ≤ 2000 + 400 * (4096 + 4 * cell_total image * settings.sizes.descr) = subst (λ k. cost st m ≤ 2000 + 400 * (4096 + 4 * k * settings.sizes.descr)) cells below in
-    subst (λ s. cost st m ≤ 2000 + 400 * (4096 + 4 * cell_total image * s.sizes.descr)) (sym of.same_settings) a
+    let below = cost_below program parameters st m (weight_limit settings (length m.memory.cells)) (steady.bound st m is valid) in
+    let a : cost program parameters st m ≤ 2000 + 400 * (4096 + 4 * cell_total image * settings.sizes.descr) = subst (λ k. cost program parameters st m ≤ 2000 + 400 * (4096 + 4 * k * settings.sizes.descr)) cells below in
+    subst (λ s. cost program parameters st m ≤ 2000 + 400 * (4096 + 4 * cell_total image * s.sizes.descr)) (sym of.same_settings) a

@@ -9,14 +9,15 @@ use Rattle.layout_params.specs.declared.cell.Cell.{Cell}
 use Rattle.layout_params.specs.declared.cell.Cell.TheVariants.{Descr, Chars}
 use Rattle.layout_params.specs.Sizes.{packed_16, flag_limit, value_limit}
 use Rattle.layout_params.specs.Packing.{packing, FitsFields}
-use Rattle.layout_params.specs.Parameters.{Settings}
+use Rattle.layout_params.specs.Parameters.{Settings, Parameters}
 use Rattle.sil_macros.specs.declared.names.Macro.{Macro}
 use Rattle.sil_model.specs.declared.program.Program.{Program}
 use Rattle.sil_model.specs.Memory.{FitsCell}
-use Rattle.sil_model.specs.Start.{limits_of, all_cells}
-use Rattle.sil_model.proofs.Steady.{steady}
+use Rattle.layout_params.specs.Areas.{all_cells}
+use Rattle.sil_model.specs.Start.{limits_of}
+use Rattle.sil_model.specs.Valid.{LawOfSteps}
 use Rattle.image_file.specs.Image.{Image, IsImage, image_of, entry_of, entries_fit}
-use Rattle.image_file.specs.Parts.{IsImageOf, kind_of, table_part}
+use Rattle.rv_emit.specs.Parts.{IsImageOf, kind_of, table_part}
 use Rattle.rv_emit.specs.Code.{last_place}
 use Rattle.rv_emit.specs.Emits.{CanEmit, Carries, FitsImage}
 use Rattle.rv_emit.proofs.FirstMemory.{length-packed, fits_all_static}
@@ -86,9 +87,12 @@ pub record Gathered (program : Program) (settings : Settings) (entries : List (�
   pub marks : kinds ≡ map kind_of program.cells
   pub none : tables ≡ []
 
-module _ (program : Program) (settings : Settings) (can : CanEmit program settings) (entries : List (ℕ × ℕ × Macro)) (words places constants cells kinds tables : List ℕ) (g : Gathered program settings entries words places constants cells kinds tables) where
+module _ (program : Program) (parameters : Parameters) (can : CanEmit program parameters.settings) (entries : List (ℕ × ℕ × Macro)) (words places constants cells kinds tables : List ℕ) (g : Gathered program parameters.settings entries words places constants cells kinds tables) where
+  abbrev settings : Settings
+  settings = parameters.settings
+
   abbrev pub image : Image
-  image = image_of settings entries words constants cells kinds tables
+  image = image_of parameters.settings entries words constants cells kinds tables
 
   count : length entries ≡ length program.statements
   count = sym (length-map entries (λ e. e.1)) ∙ ap length g.cards ∙ length-map program.statements (λ s. s.card)
@@ -121,7 +125,7 @@ module _ (program : Program) (settings : Settings) (can : CanEmit program settin
     tables = no_entries;
   }
 
-  pub is_of : IsImageOf image program settings
+  pub is_of : IsImageOf image program parameters.settings
   is_of = record {
     same_settings = refl;
     cards = cards_of entries ∙ g.cards;
@@ -132,11 +136,11 @@ module _ (program : Program) (settings : Settings) (can : CanEmit program settin
     tables = g.none ∙ ap (flat_map table_part) (sym can.no_tables);
   }
 
-  pub behaves : Carries program settings words places (last_place program settings) → Behaves image program settings
-  behaves carries =
-      law image program settings (last_place program settings) (steady program settings can.well_formed) is_of (carries image is_of refl (places_of entries ∙ g.at))
+  pub behaves : LawOfSteps → Carries program parameters words places (last_place program parameters.settings) → Behaves image program parameters
+  behaves steady carries =
+      law image program parameters (last_place program parameters.settings) (steady program parameters can.well_formed) is_of (carries image is_of refl (places_of entries ∙ g.at))
 
 -- the bytes of such an image are installed
-pub installed : {E : Type 0} (program : Program) (settings : Settings) (image : Image) (r : Result (Vec ℕ) E) → IsImage image → IsImageOf image program settings → Behaves image program settings → IfOk r (λ b. b.items ≡ spelling image) → IfOk r (λ b. IsInstalled b.items program settings)
-installed program settings i (Ok b) is of does e = record { image = i; is_image = is; spelled = e; parts = of; behaves = does }
-installed program settings i (Err x) is of does e = tt
+pub installed : {E : Type 0} (program : Program) (parameters : Parameters) (image : Image) (r : Result (Vec ℕ) E) → IsImage image → IsImageOf image program parameters.settings → Behaves image program parameters → IfOk r (λ b. b.items ≡ spelling image) → IfOk r (λ b. IsInstalled b.items program parameters)
+installed program parameters i (Ok b) is of does e = record { image = i; is_image = is; spelled = e; parts = of; behaves = does }
+installed program parameters i (Err x) is of does e = tt

@@ -1,11 +1,11 @@
 -- Installed: bytes whose runs are the runs of the abstract machine.
 use Rattle.std.specs.Prelude.{◌≡◌, ◌≢◌, ℕ, ◌^◌, ◌<◌, ◌≤◌, ◌⊎◌, List, length, Some, None, option_map, slice_get}
-use Rattle.sil_base.specs.Tapes.{Tapes}
-use Rattle.layout_params.specs.Parameters.{Settings}
+use Rattle.unit_io.specs.Tapes.{Tapes}
+use Rattle.layout_params.specs.Parameters.{Parameters}
 use Rattle.sil_model.specs.declared.end.End.{End}
 use Rattle.sil_model.specs.declared.program.Program.{Program}
 use Rattle.sil_model.specs.declared.program.Statement.{Statement}
-use Rattle.sil_model.specs.Runs.{Run}
+use Rattle.unit_io.specs.Runs.{Run}
 use Rattle.sil_model.specs.States as machine
 use Rattle.sil_model.specs.States.{Goes}
 use Rattle.sil_model.specs.Start.{first_state}
@@ -14,7 +14,7 @@ use Rattle.sil_model.specs.Costs.{cost}
 use Rattle.sil_model.specs.Prints.{IsSilent}
 use Rattle.image_file.specs.Image.{Image, IsImage}
 use Rattle.image_file.specs.Spelling.{spelling}
-use Rattle.image_file.specs.Parts.{IsImageOf}
+use Rattle.rv_emit.specs.Parts.{IsImageOf}
 use Rattle.rv_emulate.specs.declared.end.CpuEnd.{CpuEnd}
 use Rattle.rv_emulate.specs.declared.end.CpuEnd.TheVariants.{Fetch}
 use Rattle.rv_emulate.specs.States.{State, Outcome, On, Ended, start, steps_left}
@@ -30,9 +30,9 @@ pub record SameRun (r : Run CpuEnd) (q : Run End) : Type 0 where
   pub met : r.met ≡ q.met
 
 -- for all tapes and every bound, the image's run under its budget is the machine's
-abbrev pub RunsAlike : Image → Program → Settings → Type 0
-RunsAlike image program settings =
-    (tapes : Tapes) (n : ℕ) → n ≤ 2 ^ 40 → SameRun (emulation image tapes n (budget image n)) (machine program settings tapes n)
+abbrev pub RunsAlike : Image → Program → Parameters → Type 0
+RunsAlike image program parameters =
+    (tapes : Tapes) (n : ℕ) → n ≤ 2 ^ 40 → SameRun (emulation image tapes n (budget image n)) (machine program parameters tapes n)
 
 -- no run fetches outside the code: there it would end so
 abbrev pub StaysInside : Image → Type 0
@@ -50,14 +50,14 @@ abbrev pub Stops : Image → ℕ → ℕ → Type 0
 Stops image last pc = (entry_at image.statements pc ≢ None) ⊎ (pc ≡ last)
 
 -- the machine's state after as many steps as statements were met in i instructions
-abbrev pub Reached : Image → Program → Settings → Tapes → ℕ → ℕ → machine.State → Type 0
-Reached image program settings tapes n i m =
-    after program (length (met image i (start image tapes n))) (first_state program settings tapes) ≡ Goes m
+abbrev pub Reached : Image → Program → Parameters → Tapes → ℕ → ℕ → machine.State → Type 0
+Reached image program parameters tapes n i m =
+    after program parameters (length (met image i (start image tapes n))) (first_state program parameters.settings tapes) ≡ Goes m
 
 -- statement by statement, the image's state stands for the machine's
-abbrev pub Follows : Image → Program → Settings → ℕ → Type 0
-Follows image program settings last =
-    (tapes : Tapes) (n i : ℕ) (t : State) → IsAt image tapes n i t → Stops image last t.pc → (m : machine.State) × Reached image program settings tapes n i m × (t.pc ≡ place image last m.statement) × Represents settings n m t
+abbrev pub Follows : Image → Program → Parameters → ℕ → Type 0
+Follows image program parameters last =
+    (tapes : Tapes) (n i : ℕ) (t : State) → IsAt image tapes n i t → Stops image last t.pc → (m : machine.State) × Reached image program parameters tapes n i m × (t.pc ≡ place image last m.statement) × Represents parameters.settings n m t
 
 abbrev pub Arrives : Image → ℕ → Outcome → Type 0
 Arrives image last (On t) = Stops image last t.pc
@@ -72,25 +72,25 @@ abbrev pub Within : Image → ℕ → State → (Outcome → Type 0) → Type 0
 Within image most s P = (j : ℕ) × (0 < j) × (j ≤ most) × P (run image j s)
 
 -- how many instructions a run takes from place to place
-pub record Paced (image : Image) (program : Program) (settings : Settings) (last : ℕ) : Type 0 where
+pub record Paced (image : Image) (program : Program) (parameters : Parameters) (last : ℕ) : Type 0 where
   pub begins : (tapes : Tapes) (n : ℕ) → n ≤ 2 ^ 40 → Within image 2000 (start image tapes n) (λ o. (t : State) × (o ≡ On t) × (t.pc ≡ place image last 0))
-  pub statement : (tapes : Tapes) (n i k : ℕ) (t : State) → IsAt image tapes n i t → entry_at image.statements t.pc ≡ Some k → 0 < steps_left t → (m : machine.State) × Reached image program settings tapes n i m × (s : Statement) × (slice_get program.statements k ≡ Some s) × Within image (cost s m) t (Arrives image last)
+  pub statement : (tapes : Tapes) (n i k : ℕ) (t : State) → IsAt image tapes n i t → entry_at image.statements t.pc ≡ Some k → 0 < steps_left t → (m : machine.State) × Reached image program parameters tapes n i m × (s : Statement) × (slice_get program.statements k ≡ Some s) × Within image (cost program parameters s m) t (Arrives image last)
   pub bound : (tapes : Tapes) (n i k : ℕ) (t : State) → IsAt image tapes n i t → entry_at image.statements t.pc ≡ Some k → steps_left t ≡ 0 → Within image 2000 t IsEnd
   pub past : (tapes : Tapes) (n i : ℕ) (t : State) → IsAt image tapes n i t → t.pc ≡ last → Within image 2000 t IsEnd
 
 -- what the runs of an image of a program are
-pub record Behaves (image : Image) (program : Program) (settings : Settings) : Type 0 where
+pub record Behaves (image : Image) (program : Program) (parameters : Parameters) : Type 0 where
   pub last : ℕ
-  pub alike : RunsAlike image program settings
+  pub alike : RunsAlike image program parameters
   pub inside : StaysInside image
   pub silent : IsSilent program → NeverWrites image
-  pub paced : Paced image program settings last
-  pub follows : Follows image program settings last
+  pub paced : Paced image program parameters last
+  pub follows : Follows image program parameters last
 
 -- the bytes are the spelling of an image of the program, and its runs are the machine's
-pub record IsInstalled (bytes : List ℕ) (program : Program) (settings : Settings) : Type 0 where
+pub record IsInstalled (bytes : List ℕ) (program : Program) (parameters : Parameters) : Type 0 where
   pub image : Image
   pub is_image : IsImage image
   pub spelled : bytes ≡ spelling image
-  pub parts : IsImageOf image program settings
-  pub behaves : Behaves image program settings
+  pub parts : IsImageOf image program parameters.settings
+  pub behaves : Behaves image program parameters

@@ -1,7 +1,7 @@
 // From a program to the bytes of its image.
 ghost use Rattle.std.specs.Prelude.{◌≡◌, IfOk};
 ghost use Rattle.image_file.specs.Image.{IsImage};
-ghost use Rattle.image_file.specs.Parts.{IsImageOf};
+ghost use Rattle.rv_emit.specs.Parts.{IsImageOf};
 ghost use Rattle.rv_emit.specs.Emits.{CanEmit};
 ghost use Rattle.sil_install.specs.Installed.{Behaves, IsInstalled};
 
@@ -9,7 +9,7 @@ use crate::parts::{entries, kinds, pack_cells};
 use image_file::{Image, write_image};
 use layout_params::Params;
 use rv_emit::{Emitted, emit};
-use sil_model::Program;
+use sil_model::{Program, law_of_steps};
 use std::alloc::{AllocError, Global};
 
 /// The image of a program, which behaves as the program.
@@ -17,8 +17,9 @@ fn image_of(alloc: Global, program: &Program, params: &Params) -> Result<Image, 
     requires { CanEmit program.now params.now.settings }
     ensures is_image { IfOk result IsImage }
     ensures of { IfOk result (λ i. IsImageOf i program.now params.now.settings) }
-    ensures behaves { IfOk result (λ i. Behaves i program.now params.now.settings) }
+    ensures behaves { IfOk result (λ i. Behaves i program.now params.now) }
 {
+    law_of_steps();
     let cells = program.cells.items();
     let emitted = emit(alloc, program, params)?;
     let entries = entries(alloc, program.statements.items(), emitted.places.items())?;
@@ -46,7 +47,7 @@ fn image_of(alloc: Global, program: &Program, params: &Params) -> Result<Image, 
 /// The bytes of an image that is installed for a program. The only error is want of memory.
 pub fn install(alloc: Global, program: &Program, params: &Params) -> Result<Vec<u8>, AllocError>
     requires { CanEmit program.now params.now.settings }
-    ensures { IfOk result (λ bytes. IsInstalled bytes.items program.now params.now.settings) }
+    ensures { IfOk result (λ bytes. IsInstalled bytes.items program.now params.now) }
 {
     let image = image_of(alloc, program, params)?;
     write_image(alloc, &image)

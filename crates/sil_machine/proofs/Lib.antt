@@ -1,2 +1,3 @@
+pub mod Meeting
+pub mod OnSites
 pub mod Turns
-pub mod Lists

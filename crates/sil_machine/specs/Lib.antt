@@ -1,2 +1,4 @@
+pub mod Parts
+pub mod Sites
 pub mod Positions
 pub mod Outcomes

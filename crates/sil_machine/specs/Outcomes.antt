@@ -1,6 +1,7 @@
 -- How runs end.
-use Rattle.std.specs.Prelude.{ℕ, Option, slice_get}
-use Rattle.sil_base.specs.Tapes.{Tapes}
+use Rattle.std.specs.Prelude.{◌≡◌, ℕ, true, Option, is_some, slice_get}
+use Rattle.unit_io.specs.Tapes.{Tapes}
+use Rattle.layout_params.specs.Parameters.{Parameters}
 use Rattle.sil_model.specs.declared.end.End.{End}
 use Rattle.sil_model.specs.declared.end.End.TheVariants.{Undefined, Budget}
 use Rattle.sil_model.specs.declared.program.Program.{Program}
@@ -13,8 +14,12 @@ pub record RunOutcome : Type 0 where
   pub tapes : Tapes
 
 -- how a run of at most n steps ends
-unfoldable pub outcome_of : Program → ℕ → State → RunOutcome
-outcome_of program n s = record { end = (run program n s).end; tapes = (run program n s).tapes }
+unfoldable pub outcome_of : Program → Parameters → ℕ → State → RunOutcome
+outcome_of program parameters n s = record { end = (run program parameters n s).end; tapes = (run program parameters n s).tapes }
+
+-- the first is the second, where the second has an end
+unfoldable pub IsAs : RunOutcome → RunOutcome → Type 0
+IsAs o whole = is_some whole.end ≡ true → o ≡ whole
 
 -- the end at a statement where no steps are left
 unfoldable pub end_at : Program → ℕ → End

@@ -1,13 +1,13 @@
-// The macros, one function each.
+// The macros that change the memory alone, one function each.
 ghost use Rattle.std.specs.Prelude.{◌≡◌};
-ghost use Rattle.sil_model.specs.Clauses.{after_flow, clause, endex, incra, movd};
+ghost use Rattle.sil_model.specs.Clauses.{endex, incra, movd};
+ghost use Rattle.sil_machine.specs.Parts.{after_flow};
 
-use sil_macros::Macro;
 use sil_model::{Arg, Cells, Flow, number, place};
 
 /// `ENDEX D` ends as exit 0 where D.A is 0, else as exit 1.
 #[tactic(auto, unfolding(sil_model::specs::Clauses::endex))]
-fn endex(args: &[Arg], cells: &mut Cells) -> Option<Flow>
+pub fn endex(args: &[Arg], cells: &mut Cells) -> Option<Flow>
     ensures { endex args.now cells.old ≡ after_flow result cells.new }
 {
     let d = place(args, 0)?;
@@ -17,7 +17,7 @@ fn endex(args: &[Arg], cells: &mut Cells) -> Option<Flow>
 
 /// `INCRA D,N` adds N to D.A.
 #[tactic(auto, unfolding(sil_model::specs::Clauses::incra))]
-fn incra(args: &[Arg], cells: &mut Cells) -> Option<Flow>
+pub fn incra(args: &[Arg], cells: &mut Cells) -> Option<Flow>
     ensures { incra args.now cells.old ≡ after_flow result cells.new }
 {
     let d = place(args, 0)?;
@@ -29,7 +29,7 @@ fn incra(args: &[Arg], cells: &mut Cells) -> Option<Flow>
 
 /// `MOVD D1,D2` moves D2 to D1.
 #[tactic(auto, unfolding(sil_model::specs::Clauses::movd))]
-fn movd(args: &[Arg], cells: &mut Cells) -> Option<Flow>
+pub fn movd(args: &[Arg], cells: &mut Cells) -> Option<Flow>
     ensures { movd args.now cells.old ≡ after_flow result cells.new }
 {
     let d1 = place(args, 0)?;
@@ -37,17 +37,4 @@ fn movd(args: &[Arg], cells: &mut Cells) -> Option<Flow>
     let moved = cells.descr(d2)?;
     cells.set_descr(d1, moved)?;
     Some(Flow::Next)
-}
-
-/// What a statement of this macro does: where it goes, or none where the use is undefined.
-#[tactic(auto, unfolding(sil_model::specs::Clauses::clause))]
-pub fn perform(name: Macro, args: &[Arg], cells: &mut Cells) -> Option<Flow>
-    ensures { clause name args.now cells.old ≡ after_flow result cells.new }
-{
-    match name {
-        Macro::Endex => endex(args, cells),
-        Macro::Incra => incra(args, cells),
-        Macro::Movd => movd(args, cells),
-        _ => None,
-    }
 }

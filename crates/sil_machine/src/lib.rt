@@ -2,15 +2,16 @@
 #![tactic(auto)]
 
 mod clauses;
+mod dispatch;
 mod machine;
+mod parts;
 mod simulation;
+mod site;
 mod state;
-#[cfg(test)]
-mod tests;
+mod tables;
 
 pub use machine::{Machine, Step, start};
 pub use sil_model::{
-    Action, Arg, Cells, End, Entry, FIRST_CELL, FIRST_ENTRY, Flow, Limits, Program, Specials,
-    Statement, Table,
+    Action, Arg, Cells, End, Entry, Flow, Limits, Program, Specials, Statement, Table,
 };
 pub use simulation::sim;

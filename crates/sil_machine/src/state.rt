@@ -1,76 +1,108 @@
 // The states of a machine, and their steps.
-ghost use Rattle.std.specs.Prelude.{◌≡◌, ◌+◌, ◌-◌, ◌<◌, ◌≤◌, ◌^◌, length, MatchResult, Some};
-ghost use Rattle.sil_base.specs.Units.{tapes_of};
-ghost use Rattle.sil_model.specs.Machine.{make_step, step};
-ghost use Rattle.sil_machine.specs.Positions.{left, state_of};
-ghost use Rattle.sil_machine.specs.Outcomes.{end_at, outcome_of};
+ghost use Rattle.std.specs.Prelude.{◌≡◌, ◌≢◌, ◌+◌, ◌-◌, ◌<◌, ◌≤◌, ◌^◌, ℕ, Err, false, true, IfNone, IfSome, None, Some, slice_get};
+ghost use Rattle.unit_io.specs.Tapes.{Tapes};
+ghost use Rattle.unit_io.specs.Units.{RoseAt, tapes_of};
+ghost use Rattle.sil_model.specs.Machine.{make_step, settle, step};
+ghost use Rattle.sil_model.specs.Table.{calls_unit};
+ghost use Rattle.sil_model.specs.WellFormed.{IsWellFormed};
+ghost use Rattle.sil_machine.specs.Positions.{Makes, counted, ended_with_memory, left, state_at};
+ghost use Rattle.sil_machine.specs.Outcomes.{IsAs, end_at, outcome_of};
+ghost use Rattle.sil_machine.specs.Parts.{answered, had_memory};
 
-use crate::clauses::perform;
-use sil_base::UnitSet;
-use sil_model::{Cells, End, Flow, Program, Statement};
+use crate::dispatch::perform;
+use crate::parts::{Parts, Stop};
+use crate::site::Site;
+use layout_params::Params;
+use sil_model::{End, Flow, Program, Statement};
+use unit_io::UnitSet;
 
-/// Where a machine is: the number of the next statement, the cells, the top of the stack and of the
-/// frame below it, and the steps taken.
+/// Where a machine is: the number of the next statement, the steps taken, and the parts that
+/// statements change.
 #[derive(Drop)]
 pub struct Position {
     pub statement: u32,
-    pub cells: Cells,
-    pub current: i64,
-    pub previous: i64,
     pub steps: u64,
+    pub parts: Parts,
 }
 
-/// Goes to a statement, which counts as a step.
-fn go_to(at: &mut Position, k: u32)
-    requires { at.old.steps < 2 ^ 40 }
-    ensures { at.new ≡ record at.old { statement = k; steps = at.old.steps + 1 } }
+/// Goes where a statement went, or says how the run ends. The statement counts as a step.
+fn finish(at: &mut Position, went: Result<Flow, Stop>) -> Result<(), End>
+    requires number { at.old.statement < 2 ^ 32 - 1 }
+    requires steps { at.old.steps < 2 ^ 40 }
+    ensures memory { ended_with_memory result ≡ had_memory went }
+    ensures settles { ended_with_memory result ≡ true → (tapes : Tapes) → settle (state_at at.old tapes) (answered went (state_at at.old tapes)) ≡ left result (state_at at.new tapes) }
+    ensures counts { at.new.steps ≡ at.old.steps + 1 }
+    ensures cut { result ≡ Err End.Memory → went ≡ Err Stop.Memory }
+    ensures faults { (k unit : ℕ) → result ≡ Err (End.UnitFault k unit) → went ≡ Err (Stop.UnitFault unit) }
 {
-    at.statement = k;
+    let k = at.statement;
     at.steps += 1;
+    match went {
+        Ok(Flow::Next) => {
+            at.statement = k + 1;
+            Ok(())
+        }
+        Ok(Flow::To(to)) => {
+            at.statement = to;
+            Ok(())
+        }
+        Ok(Flow::Exit(code)) => Err(End::Exit(code)),
+        Ok(Flow::Trap) => Err(End::Trap(k)),
+        Err(Stop::Undefined) => Err(End::Undefined(k)),
+        Err(Stop::UnitFault(unit)) => Err(End::UnitFault(k, unit)),
+        Err(Stop::Memory) => Err(End::Memory),
+    }
 }
 
 /// The step of a position at this statement.
-#[tactic(auto, unfolding(sil_model::specs::Machine::make_step))]
 fn make_step<U: UnitSet>(
     program: &Program,
+    params: &Params,
     statement: &Statement,
     at: &mut Position,
     units: &mut U,
 ) -> Result<(), End>
+    requires well_formed { IsWellFormed program.now params.now.settings }
+    requires stands { slice_get program.now.statements at.old.statement ≡ Some statement.now }
     requires number { at.old.statement < 2 ^ 32 - 1 }
     requires steps { at.old.steps < 2 ^ 40 }
-    ensures steps { make_step statement.now (state_of program.now at.old (tapes_of (U.seen units.old))) ≡ left result (state_of program.now at.new (tapes_of (U.seen units.new))) }
-    ensures counts { MatchResult result (λ _. at.new.steps ≡ at.old.steps + 1) (λ _. at.new.steps ≡ at.old.steps) }
-    ensures stays { U.seen units.new ≡ U.seen units.old }
+    ensures steps { Makes (make_step program.now params.now statement.now (state_at at.old (tapes_of (U.seen units.old)))) result (state_at at.new (tapes_of (U.seen units.new))) }
+    ensures counts { at.new.steps ≡ at.old.steps + 1 }
+    ensures stays { calls_unit statement.now.name ≡ false → U.seen units.new ≡ U.seen units.old }
+    ensures cut { result ≡ Err End.Memory → tapes_of (U.seen units.new) ≡ tapes_of (U.seen units.old) }
+    ensures faults { (k unit : ℕ) → result ≡ Err (End.UnitFault k unit) → RoseAt unit (U.seen units.old) (U.seen units.new) }
 {
-    let k = at.statement;
-    match perform(statement.name, statement.args.items(), &mut at.cells) {
-        None => Err(End::Undefined(k)),
-        Some(Flow::Next) => {
-            go_to(at, k + 1);
-            Ok(())
-        }
-        Some(Flow::To(to)) => {
-            go_to(at, to);
-            Ok(())
-        }
-        Some(Flow::Exit(code)) => Err(End::Exit(code)),
-        Some(Flow::Trap) => Err(End::Trap(k)),
-    }
+    let site = Site::of(program, params, at.statement, statement);
+    let went = perform(statement.name, &site, at.steps, &mut at.parts, units);
+    finish(at, went)
 }
 
-/// One step. Past the last statement it is undefined.
-#[tactic(auto, unfolding(sil_model::specs::Machine::step))]
-pub fn step<U: UnitSet>(program: &Program, at: &mut Position, units: &mut U) -> Result<(), End>
-    requires size { length program.now.statements ≤ 2 ^ 14 }
-    requires steps { at.old.steps < 2 ^ 40 }
-    ensures steps { step program.now (state_of program.now at.old (tapes_of (U.seen units.old))) ≡ left result (state_of program.now at.new (tapes_of (U.seen units.new))) }
-    ensures counts { MatchResult result (λ _. at.new.steps ≡ at.old.steps + 1) (λ _. at.new.steps ≡ at.old.steps) }
-    ensures stays { U.seen units.new ≡ U.seen units.old }
+/// The statement of a number.
+fn statement_at(program: &Program, k: u32) -> Option<&Statement>
+    ensures none { IfNone result (slice_get program.now.statements k ≡ None) }
+    ensures some { IfSome result (λ s. slice_get program.now.statements k ≡ Some s.now) }
 {
-    match program.statements.items().get(at.statement as usize) {
+    program.statements.items().get(k as usize)
+}
+
+/// One step. Past the last statement it is undefined, and no step is counted.
+pub fn step<U: UnitSet>(
+    program: &Program,
+    params: &Params,
+    at: &mut Position,
+    units: &mut U,
+) -> Result<(), End>
+    requires well_formed { IsWellFormed program.now params.now.settings }
+    requires steps { at.old.steps < 2 ^ 40 }
+    ensures steps { Makes (step program.now params.now (state_at at.old (tapes_of (U.seen units.old)))) result (state_at at.new (tapes_of (U.seen units.new))) }
+    ensures counts { at.new.steps ≡ counted program.now at.old }
+    ensures one_more { at.new.steps ≤ at.old.steps + 1 }
+    ensures cut { result ≡ Err End.Memory → tapes_of (U.seen units.new) ≡ tapes_of (U.seen units.old) }
+    ensures faults { (k unit : ℕ) → result ≡ Err (End.UnitFault k unit) → RoseAt unit (U.seen units.old) (U.seen units.new) }
+{
+    match statement_at(program, at.statement) {
         None => Err(End::Undefined(at.statement)),
-        Some(statement) => make_step(program, statement, at, units),
+        Some(statement) => make_step(program, params, statement, at, units),
     }
 }
 
@@ -79,23 +111,28 @@ pub fn step<U: UnitSet>(program: &Program, at: &mut Position, units: &mut U) -> 
 fn end_at(program: &Program, k: u32) -> End
     ensures { result ≡ end_at program.now k }
 {
-    match program.statements.items().get(k as usize) {
+    match statement_at(program, k) {
         None => End::Undefined(k),
         Some(_) => End::Budget,
     }
 }
 
 /// A run of at most n steps.
-#[tactic(auto, using(crate::proofs::Turns::turns))]
-pub fn run<U: UnitSet>(program: &Program, at: &mut Position, n: u64, units: &mut U) -> End
-    requires size { length program.now.statements ≤ 2 ^ 14 }
+pub fn run<U: UnitSet>(
+    program: &Program,
+    params: &Params,
+    at: &mut Position,
+    n: u64,
+    units: &mut U,
+) -> End
+    requires well_formed { IsWellFormed program.now params.now.settings }
     requires steps { at.old.steps + n ≤ 2 ^ 40 }
-    ensures run { outcome_of program.now n (state_of program.now at.old (tapes_of (U.seen units.old))) ≡ record { end = Some result; tapes = tapes_of (U.seen units.new) } }
-    ensures stays { U.seen units.new ≡ U.seen units.old }
+    ensures { result ≢ End.Memory → IsAs (record { end = Some result; tapes = tapes_of (U.seen units.new) }) (outcome_of program.now params.now n (state_at at.old (tapes_of (U.seen units.old)))) }
 {
     for i in 0..n {
-        if let Err(end) = step(program, at, units) {
-            return end;
+        match step(program, params, at, units) {
+            Ok(()) => {}
+            Err(end) => return end,
         }
     }
     end_at(program, at.statement)

@@ -6,8 +6,6 @@ mod lookup;
 mod names;
 mod operands;
 mod shapes;
-#[cfg(test)]
-mod tests;
 
 pub use laws::law_of_macros;
 pub use lookup::{macro_at, macro_of};

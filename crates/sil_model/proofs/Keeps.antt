@@ -1,22 +1,19 @@
--- Each clause leaves a memory of the same shape, whose cells fit.
+-- What a clause on memory leaves has the same shape, and its cells fit.
 use Rattle.std.proofs.Common.{◌≡◌, ℕ, ◌≤◌, List, Option, Some, None, ℤ, refl, subst, arith, rules}
 use Rattle.std.proofs.Math.ListN.{length-set}
 use Rattle.std.proofs.Math.Facts.{sfits_to_z}
-use Rattle.std.specs.Prelude.{slice_get, FitsSigned}
+use Rattle.std.specs.Prelude.{slice_get, All, FitsSigned}
 use Rattle.std.specs.Int.{w64}
 use Rattle.std.proofs.lemmas.Option.{get_or_from_slice_get, slice_get_within, same_Some}
 use Rattle.std.proofs.lemmas.List.Elements.{All-set}
 use Rattle.layout_params.specs.declared.cell.Cell.{Cell}
 use Rattle.layout_params.specs.declared.cell.Cell.TheVariants.{Descr, Chars}
 use Rattle.layout_params.specs.declared.cell.Descr.{Descr as Descriptor}
-use Rattle.sil_macros.specs.declared.names.Macro.{Macro}
-use Rattle.sil_macros.specs.declared.names.Macro.TheVariants.{Endex, Incra, Movd}
-use Rattle.sil_model.specs.declared.program.Arg.{Arg}
 use Rattle.sil_model.specs.declared.program.Flow.{Flow}
 use Rattle.sil_model.specs.declared.program.Flow.TheVariants.{To}
 use Rattle.sil_model.specs.Memory.{Memory, IsMemory, SameShape, FitsCell, FitsDescr}
 use Rattle.sil_model.specs.Access.{◌>>=◌, cell_number, cell_at, set_cell_at, descr_of, descr_at, set_descr_at, set_a_at, with_cell}
-use Rattle.sil_model.specs.Clauses.{Effect, onward, endex, incra, movd, clause}
+use Rattle.sil_model.specs.Effects.{MemoryEffect, onward}
 use Rattle.sil_model.specs.Integers.{◌⊞◌}
 
 -- the later memory has the shape of the first, and its cells fit
@@ -24,7 +21,7 @@ pub record Follows (m m' : Memory) : Type 0 where
   pub shape : SameShape m m'
   pub is_memory : IsMemory m'
 
-abbrev pub Writes : Memory → Option Memory → Type 0
+unfoldable pub Writes : Memory → Option Memory → Type 0
 Writes m None = Unit {0}
 Writes m (Some m') = Follows m m'
 
@@ -33,29 +30,34 @@ abbrev pub LeadsWithin : ℕ → Flow → Type 0
 LeadsWithin last (To k) = k ≤ last
 LeadsWithin last _ = Unit {0}
 
-abbrev pub Keeps : ℕ → Memory → Effect → Type 0
+unfoldable pub Keeps : ℕ → Memory → MemoryEffect → Type 0
 Keeps last m None = Unit {0}
 Keeps last m (Some (flow, m')) = LeadsWithin last flow × Follows m m'
 
 pub same : (m : Memory) → IsMemory m → Follows m m
 same m h = record { shape = record { limits = refl; count = refl }; is_memory = h }
 
-pub keeps_read : {A : Type 0} (last : ℕ) (m : Memory) (o : Option A) (f : A → Effect) → ((a : A) → o ≡ Some a → Keeps last m (f a)) → Keeps last m (o >>= f)
+pub keeps_read : {A : Type 0} (last : ℕ) (m : Memory) (o : Option A) (f : A → MemoryEffect) → ((a : A) → o ≡ Some a → Keeps last m (f a)) → Keeps last m (o >>= f)
+unfolding Keeps
 keeps_read last m None f h = tt
 keeps_read last m (Some a) f h = h a refl
 
+pub keeps_here : (last : ℕ) (m : Memory) (flow : Flow) → LeadsWithin last flow → IsMemory m → Keeps last m (Some (flow, m))
+unfolding Keeps
+keeps_here last m flow l h = (l, same m h)
+
 pub keeps_write : (last : ℕ) (m : Memory) (o : Option Memory) → Writes m o → Keeps last m (onward o)
+unfolding Keeps Writes
 keeps_write last m None h = tt
 keeps_write last m (Some m') h = (tt, h)
 
--- a cell of a memory fits
-fits_there : (m : Memory) (cell : Cell) (i : ℕ) → IsMemory m → slice_get m.cells i ≡ Some cell → FitsCell m.limits cell
-fits_there m cell i h is =
-    subst (FitsCell m.limits) (get_or_from_slice_get m.cells i cell cell is) (h.fit i cell (slice_get_within m.cells i cell is))
+-- what is in a list where all elements are so
+pub all_at : {A : Type 0} (P : A → Type 0) (xs : List A) (i : ℕ) (x : A) → All P xs → slice_get xs i ≡ Some x → P x
+all_at P xs i x h is = subst P (get_or_from_slice_get xs i x x is) (h i x (slice_get_within xs i x is))
 
 fits_number : (m : Memory) (o : Option ℕ) (cell : Cell) → IsMemory m → (o >>= (λ i. slice_get m.cells i)) ≡ Some cell → FitsCell m.limits cell
 fits_number m None cell h is = cc
-fits_number m (Some i) cell h is = fits_there m cell i h is
+fits_number m (Some i) cell h is = all_at (FitsCell m.limits) m.cells i cell h.fit is
 
 pub fits_cell_at : (m : Memory) (at : ℤ) (cell : Cell) → IsMemory m → cell_at m at ≡ Some cell → FitsCell m.limits cell
 unfolding cell_at
@@ -70,11 +72,13 @@ pub fits_descr_at : (m : Memory) (at : ℤ) (d : Descriptor) → IsMemory m → 
 unfolding descr_at
 fits_descr_at m at d h is = fits_descr_of m at (cell_at m at) d h refl is
 
-writes_read : {A : Type 0} (m : Memory) (o : Option A) (f : A → Option Memory) → ((a : A) → o ≡ Some a → Writes m (f a)) → Writes m (o >>= f)
+pub writes_read : {A : Type 0} (m : Memory) (o : Option A) (f : A → Option Memory) → ((a : A) → o ≡ Some a → Writes m (f a)) → Writes m (o >>= f)
+unfolding Writes
 writes_read m None f h = tt
 writes_read m (Some a) f h = h a refl
 
 writes_cell : (m : Memory) (o : Option ℕ) (cell : Cell) → IsMemory m → FitsCell m.limits cell → Writes m (o >>= (λ i. Some (with_cell m i cell)))
+unfolding Writes
 writes_cell m None cell h fits = tt
 writes_cell m (Some i) cell h fits = record {
   shape = record { limits = refl; count = length-set m.cells i cell };
@@ -96,22 +100,3 @@ writes_set_a m at a h fits = writes_read m _ _ (λ d e. let was = fits_descr_at 
 -- a sum that wraps fits
 pub sum_fits : (x y : ℤ) → FitsSigned w64 (x ⊞ y)
 sum_fits x y = sfits_to_z (search rules)
-
-endex_keeps : (last : ℕ) (args : List Arg) (m : Memory) → IsMemory m → Keeps last m (endex args m)
-unfolding endex
-endex_keeps last args m h = search (keeps_read, same) depth 12
-
-incra_keeps : (last : ℕ) (args : List Arg) (m : Memory) → IsMemory m → Keeps last m (incra args m)
-unfolding incra
-incra_keeps last args m h = search (keeps_read, keeps_write, writes_set_a, sum_fits) depth 16
-
-movd_keeps : (last : ℕ) (args : List Arg) (m : Memory) → IsMemory m → Keeps last m (movd args m)
-unfolding movd
-movd_keeps last args m h = search (keeps_read, keeps_write, writes_set_descr, fits_descr_at) depth 12
-
-pub clause_keeps : (last : ℕ) (name : Macro) (args : List Arg) (m : Memory) → IsMemory m → Keeps last m (clause name args m)
-unfolding clause
-clause_keeps last Endex args m h = endex_keeps last args m h
-clause_keeps last Incra args m h = incra_keeps last args m h
-clause_keeps last Movd args m h = movd_keeps last args m h
-clause_keeps last _ args m h = tt

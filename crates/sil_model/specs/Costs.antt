@@ -1,11 +1,13 @@
 -- The instructions that a statement may take.
 use Rattle.std.specs.Prelude.{ℕ, ◌+◌, ◌*◌, List, [], ◌∷◌, length}
-use Rattle.layout_params.specs.Parameters.{Settings}
+use Rattle.layout_params.specs.Parameters.{Settings, Parameters}
 use Rattle.sil_macros.specs.declared.names.Macro.{Macro}
 use Rattle.sil_macros.specs.declared.names.Macro.TheVariants.{Endex, Incra, Movd}
 use Rattle.sil_model.specs.declared.program.Arg.{Arg}
 use Rattle.sil_model.specs.declared.program.Arg.TheVariants.{Places, Gotos}
+use Rattle.sil_model.specs.declared.program.Program.{Program}
 use Rattle.sil_model.specs.declared.program.Statement.{Statement}
+use Rattle.sil_model.specs.Sites.{Site, site_of}
 use Rattle.sil_model.specs.States.{State}
 
 -- the operands, each item of a list by itself
@@ -19,17 +21,17 @@ operand_count [] = 0
 operand_count (arg ∷ args) = item_count arg + operand_count args
 
 -- the visits that a clause makes to cells, characters, table entries and links
-abbrev pub visits : Macro → State → ℕ
-visits Endex s = 1
-visits Incra s = 2
-visits Movd s = 2
-visits _ s = 0
+abbrev pub visits : Macro → Site → State → ℕ
+visits Endex site s = 1
+visits Incra site s = 2
+visits Movd site s = 2
+visits _ site s = 0
 
-unfoldable pub weight : Statement → State → ℕ
-weight statement s = operand_count statement.args + visits statement.name s
+unfoldable pub weight : Program → Parameters → Statement → State → ℕ
+weight program parameters statement s = operand_count statement.args + visits statement.name (site_of program parameters s.statement statement) s
 
-unfoldable pub cost : Statement → State → ℕ
-cost statement s = 2000 + 400 * weight statement s
+unfoldable pub cost : Program → Parameters → Statement → State → ℕ
+cost program parameters statement s = 2000 + 400 * weight program parameters statement s
 
 -- no valid state makes a statement weigh more, by the number of all cells
 abbrev pub weight_limit : Settings → ℕ → ℕ

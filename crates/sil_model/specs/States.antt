@@ -1,6 +1,6 @@
 -- The states of the abstract machine.
-use Rattle.std.specs.Prelude.{ℕ, List, Option, ℤ}
-use Rattle.sil_base.specs.Tapes.{Tapes}
+use Rattle.std.specs.Prelude.{ℕ, Bool, true, List, Option, is_some, ℤ}
+use Rattle.unit_io.specs.Tapes.{Tapes}
 use Rattle.sil_model.specs.declared.end.End.{End}
 use Rattle.sil_model.specs.declared.table.Table.{Table}
 use Rattle.sil_model.specs.Memory.{Memory}
@@ -19,3 +19,8 @@ pub record State : Type 0 where
 pub data Step : Type 0 where
   Goes : State → Step
   Ends : Option End → Tapes → Step
+
+-- whether the units tell what the step does
+abbrev pub is_told : Step → Bool
+is_told (Goes s) = true
+is_told (Ends end tapes) = is_some end

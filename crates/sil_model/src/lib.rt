@@ -2,18 +2,18 @@
 // of states, steps and runs.
 #![tactic(auto)]
 
+mod built;
 mod cells;
 mod end;
 mod laws;
 mod limits;
 mod program;
 mod table;
-#[cfg(test)]
-mod tests;
 
+pub use built::{BUILT, is_built};
 pub use cells::Cells;
 pub use end::End;
-pub use laws::{law_of_runs, law_of_steps};
-pub use limits::{FIRST_CELL, FIRST_ENTRY, Limits, limits_of};
+pub use laws::{law_of_runs, law_of_steps, law_of_units};
+pub use limits::{Limits, limits_of};
 pub use program::{Arg, Flow, Program, Specials, Statement, number, place};
 pub use table::{Action, Entry, Table};

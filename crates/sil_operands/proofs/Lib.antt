@@ -1,6 +1,5 @@
 pub mod Cuts
 pub mod Each
-pub mod Digits
 pub mod Lists
 pub mod Quotes
 pub mod SpelledBytes

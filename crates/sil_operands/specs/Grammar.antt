@@ -1,7 +1,7 @@
 -- The grammar of operand fields: which bytes spell which operands, a definition for each production.
 -- 39 is the quote, 40 and 41 the brackets, 42 the star, 43 the plus, 44 the comma and 45 the minus.
 use Rattle.std.specs.Prelude.{◌≡◌, ℕ, List, [], ◌∷◌, ◌++◌, Option, Some, None, Bool, false, ◌⊎◌, IsTrue, if◌then◌else◌, ◌==◌}
-use Rattle.sil_operands.specs.Names.{is_name, is_number, value_of}
+use Rattle.sil_base.specs.Names.{is_name, is_number, value_of}
 use Rattle.sil_operands.specs.declared.expr.Factor.{Factor}
 use Rattle.sil_operands.specs.declared.expr.Factor.TheVariants.{Name, Number}
 use Rattle.sil_operands.specs.declared.expr.Term.{Term}

@@ -1,4 +1,4 @@
-pub mod Names
 pub mod Grammar
 pub mod Limits
 pub mod Reading
+pub mod Simple

@@ -1,5 +1,6 @@
 -- The limits on operands.
 use Rattle.std.specs.Prelude.{ℕ, ◌^◌, List, length, Option, Some, None, Bool, true, ◌&&◌, nat_lt, nat_le}
+use Rattle.sil_base.specs.declared.limits.TheConstants.{MAX_LIST_ITEMS}
 use Rattle.std.specs.List.{list_all}
 use Rattle.sil_operands.specs.declared.expr.Factor.{Factor}
 use Rattle.sil_operands.specs.declared.expr.Factor.TheVariants.{Name, Number}
@@ -14,7 +15,7 @@ pub record Limits : Type 0 where
 
 -- the limits of cards: at most 40 items of a list, and numbers of 64 bits
 abbrev pub card_limits : Limits
-card_limits = record { items = λ n. nat_le n 40; number = λ n. nat_lt n (2 ^ 64) }
+card_limits = record { items = λ n. nat_le n MAX_LIST_ITEMS; number = λ n. nat_lt n (2 ^ 64) }
 
 abbrev pub factor_keeps : Limits → Factor → Bool
 factor_keeps limits (Name name) = true

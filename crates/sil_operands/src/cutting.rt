@@ -3,18 +3,14 @@ ghost use Rattle.std.specs.Prelude.{◌≡◌, ◌+◌, ◌<◌, ◌==◌, [], �
 ghost use Rattle.sil_operands.specs.Reading.{parts_at, signed_parts, is_sign, operand_parts, place_after, separates};
 ghost use Rattle.sil_operands.specs.declared.cutting.Place.TheVariants.{Outside};
 
+use sil_base::index_of_byte;
+
 /// Where a byte of a field stands: outside of lists and texts, within a list, or within a text.
 #[derive(Clone, Copy)]
 pub(crate) enum Place {
     Outside,
     Within,
     Quoted,
-}
-
-fn index_of_byte(text: &[u8], byte: u8) -> Option<usize>
-    ensures { result ≡ position (λ c. c == byte) text.now }
-{
-    text.iter().position(|c| *c == byte)
 }
 
 /// What stands before and after the first byte of this value.

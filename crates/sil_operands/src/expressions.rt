@@ -7,7 +7,7 @@ use crate::cutting::{cut, cut_sign};
 use crate::expr::Expr;
 use crate::factors::read_term;
 use crate::operand::OperandFault;
-use sil_base::Items;
+use sil_base::{Items, MAX_LIST_ITEMS};
 use std::alloc::Global;
 
 /// The terms of a text, by the sign of the first.
@@ -68,11 +68,11 @@ fn read_each_item(alloc: Global, inner: &[u8]) -> Result<Items<Option<Expr>>, Op
     Ok(Items::of(items))
 }
 
-/// The items between the brackets of a list, of which there are at most 40.
+/// The items between the brackets of a list, of which there are at most so many as a list may have.
 pub(crate) fn read_items(alloc: Global, inner: &[u8]) -> Result<Items<Option<Expr>>, OperandFault>
     ensures { Answers result (items_in card_limits inner.now) }
 {
-    if count_of_byte(inner, b',') >= 40 {
+    if count_of_byte(inner, b',') >= MAX_LIST_ITEMS {
         return Err(OperandFault::Bad);
     }
     read_each_item(alloc, inner)

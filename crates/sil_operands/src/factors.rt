@@ -4,9 +4,8 @@ ghost use Rattle.sil_operands.specs.Reading.{Answers, each, parts_at, factor_in,
 
 use crate::cutting::cut;
 use crate::expr::{Factor, Term};
-use crate::names::{is_name, is_number, value_of};
 use crate::operand::OperandFault;
-use sil_base::{Items, Record};
+use sil_base::{Items, Record, digits_value, is_name, is_number};
 use std::alloc::Global;
 
 /// The factor that bytes spell.
@@ -19,7 +18,7 @@ fn read_factor(alloc: Global, bytes: &[u8]) -> Result<Factor, OperandFault>
     if !is_number(bytes) {
         return Err(OperandFault::Bad);
     }
-    match value_of(bytes) {
+    match digits_value(bytes) {
         Some(value) => Ok(Factor::Number(value)),
         None => Err(OperandFault::Bad),
     }

@@ -1,10 +1,10 @@
 // Operands, and why a field has none.
-ghost use Rattle.std.specs.Prelude.{◌≡◌};
+ghost use Rattle.std.specs.Prelude.{◌≡◌, []};
 
 use crate::expr::Expr;
 use sil_base::{Items, Record};
 use smallvec::SmallVec;
-use std::alloc::{AllocError, AllocFailed};
+use std::alloc::{AllocError, AllocFailed, Global};
 use std::marker::Model;
 use thiserror::Error;
 
@@ -39,6 +39,15 @@ impl Operands {
         ensures { result ≡ items.items }
     {
         Operands { items }
+    }
+
+    /// No operands.
+    pub fn none(alloc: Global) -> Operands
+        ensures { result ≡ [] }
+    {
+        Operands {
+            items: SmallVec::new(alloc),
+        }
     }
 
     /// The operands, in order.

@@ -10,7 +10,7 @@ use Rattle.sil_base.specs.declared.line.Fault.{Fault}
 use Rattle.sil_operands.specs.declared.expr.Factor.{Factor}
 use Rattle.sil_operands.specs.declared.expr.Factor.TheVariants.{Name, Number}
 use Rattle.sil_operands.specs.declared.expr.Term.{Term}
-use Rattle.sil_symbols.specs.declared.limits.TheConstants.{MAX_CELLS}
+use Rattle.sil_base.specs.declared.limits.TheConstants.{MAX_CELLS}
 use Rattle.sil_symbols.specs.declared.origin.Origin.{Origin}
 use Rattle.sil_symbols.specs.declared.origin.Origin.TheVariants.{Parameter, Label}
 use Rattle.sil_symbols.specs.declared.outcome.Outcome.{Outcome}

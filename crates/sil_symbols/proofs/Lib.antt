@@ -2,7 +2,6 @@ pub mod Lists
 pub mod Spots
 pub mod LabelLemmas
 pub mod LawLemmas
-pub mod ParameterLemmas
 pub mod Agreement
 pub mod Rounds
 pub mod RuleLemmas

@@ -5,7 +5,7 @@ use Rattle.std.proofs.lemmas.Nat.{mul-le}
 use Rattle.std.proofs.lemmas.List.{take_more}
 use Rattle.std.proofs.lemmas.Bool.Decides.{leb_tells, nat_tests}
 use Rattle.sil_symbols.specs.declared.addresses.Spot.{Spot}
-use Rattle.sil_symbols.specs.declared.limits.TheConstants.{FIRST_CELL, FIRST_ENTRY}
+use Rattle.sil_base.specs.declared.places.TheConstants.{FIRST_CELL, FIRST_ENTRY}
 use Rattle.sil_symbols.specs.declared.outcome.Outcome.{Outcome}
 use Rattle.sil_symbols.specs.declared.outcome.Outcome.TheVariants.{NoValue}
 use Rattle.sil_symbols.specs.declared.part.Part.{Part}

@@ -11,7 +11,7 @@ use Rattle.sil_symbols.specs.declared.names.Names.{Names}
 use Rattle.sil_symbols.specs.declared.outcome.Outcome.{Outcome}
 use Rattle.sil_symbols.specs.declared.outcome.Outcome.TheVariants.{NoValue}
 use Rattle.sil_symbols.specs.declared.stmt.Stmt.{Stmt}
-use Rattle.sil_symbols.specs.declared.limits.TheConstants.{MAX_CELLS, MAX_STATEMENTS}
+use Rattle.sil_base.specs.declared.limits.TheConstants.{MAX_CELLS, MAX_STATEMENTS}
 use Rattle.sil_symbols.specs.declared.symbols.Outcomes.{Outcomes}
 use Rattle.sil_symbols.specs.Parts.{part_of, is_end, is_format}
 use Rattle.sil_symbols.specs.Expressions.{outcome_of}

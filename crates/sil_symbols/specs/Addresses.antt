@@ -4,7 +4,8 @@ use Rattle.std.specs.Int.{div_ceil}
 use Rattle.sil_operands.specs.declared.operand.Operand.{Operand}
 use Rattle.sil_operands.specs.declared.operand.Operand.TheVariants.{Null, Expr, List as Listed, Text}
 use Rattle.sil_symbols.specs.declared.addresses.Spot.{Spot}
-use Rattle.sil_symbols.specs.declared.limits.TheConstants.{FIRST_CELL, FIRST_ENTRY, MAX_CELLS}
+use Rattle.sil_base.specs.declared.places.TheConstants.{FIRST_CELL, FIRST_ENTRY}
+use Rattle.sil_base.specs.declared.limits.TheConstants.{MAX_CELLS}
 use Rattle.sil_symbols.specs.declared.outcome.Outcome.{Outcome}
 use Rattle.sil_symbols.specs.declared.outcome.Outcome.TheVariants.{Value, NoValue, Circular}
 use Rattle.sil_symbols.specs.declared.part.Part.{Part}

@@ -5,7 +5,7 @@ use Rattle.std.specs.Option.{option_map_or}
 use Rattle.std.specs.Cmp.Lexicographic.{pointwise}
 use Rattle.indexmap.specs.IndexMap.{get_by}
 use Rattle.layout_params.specs.Parameters.{Parameters}
-use Rattle.layout_params.specs.Symbols.{symbol_names, symbol_of}
+use Rattle.layout_params.specs.Symbols.{symbol_in, symbol_of}
 use Rattle.sil_operands.specs.declared.expr.Term.{Term}
 use Rattle.sil_macros.specs.declared.shapes.Place.{Place}
 use Rattle.sil_symbols.specs.declared.names.Names.{Names}
@@ -21,15 +21,9 @@ use Rattle.sil_symbols.specs.Labels.{labelled, origin_by}
 use Rattle.sil_symbols.specs.Rules.{is_apart}
 use Rattle.sil_symbols.specs.Values.{Meaning, Fixed, Equals, first_expression, meaning_of, outcome_within}
 
-abbrev pub texts_of : List (Bor (List ℕ)) → List (List ℕ)
-texts_of texts = map (λ text. text.now) texts
-
 -- the value of a parameter symbol, and the place of a label
-abbrev pub parameter_by : List ℤ → List ℕ → Option ℤ
-parameter_by values name = option_map (λ i. slice_index_or values i (pos 0)) (position (pointwise nat_eq name) symbol_names)
-
 abbrev pub parameter_in : Names → List ℕ → Option ℤ
-parameter_in names name = parameter_by names.parameters name
+parameter_in names name = symbol_in names.parameters name
 
 abbrev pub label_in : Names → List ℕ → Option ℕ
 label_in names name = get_by (λ k. pointwise nat_eq name k.items) names.labels

@@ -1,19 +1,17 @@
 -- What the symbols of a source are, and why there are none.
-use Rattle.std.specs.Prelude.{◌≡◌, ◌≢◌, ◌+◌, ℕ, List, [], Option, Some, None, option_and_then, slice_index_or, ◌||◌, nat_lt, false, Bool, if◌then◌else◌, ℤ}
+use Rattle.std.specs.Prelude.{◌≡◌, ◌+◌, ℕ, List, [], Option, Some, None, option_and_then, slice_index_or, ◌||◌, nat_lt, false, Bool, if◌then◌else◌, ℤ}
 use Rattle.std.specs.Int.{div_ceil}
 use Rattle.layout_params.specs.Parameters.{Parameters}
 use Rattle.sil_operands.specs.declared.expr.Term.{Term}
 use Rattle.sil_symbols.specs.declared.addresses.Spot.{Spot}
-use Rattle.sil_symbols.specs.declared.limits.TheConstants.{MAX_CELLS, MAX_STATEMENTS}
+use Rattle.sil_base.specs.declared.limits.TheConstants.{MAX_CELLS, MAX_STATEMENTS}
 use Rattle.sil_symbols.specs.declared.names.Names.{Names}
 use Rattle.sil_symbols.specs.declared.stmt.Stmt.{Stmt}
 use Rattle.sil_symbols.specs.declared.symbols.Outcomes.{Outcomes}
-use Rattle.sil_symbols.specs.declared.symbols.SymbolStop.{SymbolStop}
-use Rattle.sil_symbols.specs.declared.symbols.SymbolStop.TheVariants.{Faults, Memory}
 use Rattle.sil_symbols.specs.declared.symbols.Symbols.{Symbols}
 use Rattle.sil_symbols.specs.Expressions.{outcome_of}
 use Rattle.sil_symbols.specs.Symbols.{value_in, value_of_name, value_of, format_of, size_names, names_of}
-use Rattle.sil_symbols.specs.Rules.{is_over, faults_of}
+use Rattle.sil_symbols.specs.Rules.{is_over}
 use Rattle.sil_symbols.specs.Held.{names_in, label_in}
 
 -- the value of a name and of an expression, and the place of a FORMAT, by symbols
@@ -31,11 +29,6 @@ pub record Resolves (p : Parameters) (statements : List Stmt) (s : Symbols) : Ty
   pub values : (name : List ℕ) → symbol_value s name ≡ value_of_name p statements name
   pub expressions : (terms : List Term) → expression_value s terms ≡ value_of p statements terms
   pub formats : (name : List ℕ) → symbol_format s name ≡ format_of statements name
-
--- there are faults, and they are those of the source
-abbrev pub StopsBy : Parameters → List Stmt → SymbolStop → Type 0
-StopsBy p statements (Faults faults) = (faults ≡ faults_of p statements) × (faults ≢ [])
-StopsBy p statements Memory = Unit {0}
 
 -- outcomes as the code holds them are those of the source
 pub record AreOutcomes (p : Parameters) (statements : List Stmt) (names : Names) (o : Outcomes) : Type 0 where

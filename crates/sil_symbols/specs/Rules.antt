@@ -5,6 +5,8 @@ use Rattle.std.specs.List.Sorted.{IsStrictlyIncreasing}
 use Rattle.layout_params.specs.Parameters.{Parameters}
 use Rattle.layout_params.specs.Symbols.{symbol_of}
 use Rattle.sil_base.specs.declared.line.Fault.{Fault}
+use Rattle.sil_base.specs.declared.line.TheConstants.{SOURCE_FILE}
+use Rattle.sil_base.specs.Faults.{fault_at}
 use Rattle.sil_macros.specs.declared.shapes.Kind.{Kind}
 use Rattle.sil_macros.specs.declared.shapes.Kind.TheVariants.{Table, Key}
 use Rattle.sil_macros.specs.declared.shapes.Place.{Place}
@@ -12,7 +14,7 @@ use Rattle.sil_macros.specs.Rows.{row}
 use Rattle.sil_operands.specs.declared.expr.Term.{Term}
 use Rattle.sil_operands.specs.declared.operand.Operand.{Operand}
 use Rattle.sil_operands.specs.declared.operand.Operand.TheVariants.{Null, Expr, List as Listed, Text}
-use Rattle.sil_symbols.specs.declared.limits.TheConstants.{MAX_CELLS, MAX_STATEMENTS}
+use Rattle.sil_base.specs.declared.limits.TheConstants.{MAX_CELLS, MAX_STATEMENTS}
 use Rattle.sil_symbols.specs.declared.outcome.Outcome.{Outcome}
 use Rattle.sil_symbols.specs.declared.outcome.Outcome.TheVariants.{Value, NoValue, Circular}
 use Rattle.sil_symbols.specs.declared.stmt.Stmt.{Stmt}
@@ -113,12 +115,9 @@ value_rule sizes names over place s =
     else if is_end (part_of s.name) && over then Some 4
     else None
 
-abbrev pub fault_at : ℕ → ℕ → ℕ → Fault
-fault_at letter card rule = record { line = record { file = 0; number = card }; code = record { letter = letter; rule = rule } }
-
 abbrev pub with_fault : ℕ → ℕ → Option ℕ → List Fault → List Fault
 with_fault letter card None faults = faults
-with_fault letter card (Some rule) faults = fault_at letter card rule ∷ faults
+with_fault letter card (Some rule) faults = fault_at SOURCE_FILE letter card rule ∷ faults
 
 -- the faults of statements from a place on, by the rule that each of them breaks
 abbrev pub faults_from : ℕ → (ℕ → Stmt → Option ℕ) → ℕ → List Stmt → List Fault

@@ -4,7 +4,7 @@ use Rattle.std.specs.Int.{div_ceil}
 use Rattle.layout_params.specs.Parameters.{Parameters}
 use Rattle.sil_operands.specs.declared.expr.Term.{Term}
 use Rattle.sil_symbols.specs.declared.addresses.Spot.{Spot}
-use Rattle.sil_symbols.specs.declared.limits.TheConstants.{MAX_CELLS, MAX_STATEMENTS}
+use Rattle.sil_base.specs.declared.limits.TheConstants.{MAX_CELLS, MAX_STATEMENTS}
 use Rattle.sil_symbols.specs.declared.outcome.Outcome.{Outcome}
 use Rattle.sil_symbols.specs.declared.outcome.Outcome.TheVariants.{Value, NoValue, Circular}
 use Rattle.sil_symbols.specs.declared.stmt.Stmt.{Stmt}

@@ -6,11 +6,11 @@ ghost use Rattle.sil_symbols.specs.Held.{names_in, capped};
 
 use crate::expressions::outcome_of;
 use crate::labels::first_expression;
-use crate::limits::{FIRST_CELL, FIRST_ENTRY, MAX_CELLS};
 use crate::names::Names;
 use crate::outcome::{Outcome, number};
 use crate::part::{Part, part_of};
 use crate::stmt::Stmt;
+use sil_base::{FIRST_CELL, FIRST_ENTRY, MAX_CELLS};
 use sil_operands::{Operand, Operands};
 use std::alloc::{AllocError, Global};
 

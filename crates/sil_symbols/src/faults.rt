@@ -1,26 +1,14 @@
 // The faults of a source.
 ghost use Rattle.std.specs.Prelude.{◌≡◌, ◌≤◌, ◌++◌, List, length, IfOk, OnOk};
 ghost use Rattle.sil_base.specs.declared.line.Fault.{Fault};
-ghost use Rattle.sil_symbols.specs.Rules.{name_rule, value_rule, fault_at, with_fault, faults_from};
+ghost use Rattle.sil_symbols.specs.Rules.{name_rule, value_rule, with_fault, faults_from};
 ghost use Rattle.sil_symbols.specs.Held.{parameter_in, label_in, names_in};
 
 use crate::names::Names;
 use crate::rules::{Values, name_rule, value_rule};
 use crate::stmt::Stmt;
-use sil_base::{Fault, FaultCode, Line};
+use sil_base::{Fault, MAX_CARDS, SOURCE_FILE, fault_at};
 use std::alloc::{AllocError, Global};
-
-fn fault_at(letter: u8, card: u32, rule: u8) -> Fault
-    ensures { result ≡ fault_at letter card rule }
-{
-    Fault {
-        line: Line {
-            file: 0,
-            number: card,
-        },
-        code: FaultCode { letter, rule },
-    }
-}
 
 /// Appends the fault of a card, where it breaks a rule.
 fn push_fault(
@@ -32,7 +20,7 @@ fn push_fault(
     ensures { OnOk result ((rest : List Fault) → faults.new.items ++ rest ≡ faults.old.items ++ with_fault letter card rule rest) }
 {
     if let Some(rule) = rule {
-        faults.push(fault_at(letter, card, rule))?;
+        faults.push(fault_at(SOURCE_FILE, letter, card, rule))?;
     }
     Ok(())
 }
@@ -43,7 +31,7 @@ pub(crate) fn name_faults(
     statements: &[Stmt],
     names: &Names,
 ) -> Result<Vec<Fault>, AllocError>
-    requires { length statements.now ≤ 40000 }
+    requires { length statements.now ≤ MAX_CARDS }
     ensures { IfOk result (λ v. v.items ≡ faults_from 78 (name_rule (parameter_in names.now) (label_in names.now)) 0 statements.now) }
 {
     let mut faults = Vec::new(alloc);

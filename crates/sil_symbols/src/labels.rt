@@ -10,6 +10,7 @@ ghost use Rattle.sil_symbols.specs.Held.{equation_of};
 use crate::part::{Part, part_of};
 use crate::stmt::Stmt;
 use indexmap::IndexMap;
+use sil_base::MAX_CARDS;
 use sil_operands::{Expr, Operand, Operands};
 use std::alloc::{AllocError, Global};
 
@@ -46,7 +47,7 @@ pub(crate) fn labels_of(
     alloc: Global,
     statements: &[Stmt],
 ) -> Result<IndexMap<Vec<u8>, u32>, AllocError>
-    requires { length statements.now ≤ 40000 }
+    requires { length statements.now ≤ MAX_CARDS }
     ensures { IfOk result (λ labels. (name : List ℕ)
         → get_by (λ k. pointwise nat_eq name k.items) labels ≡ labelled statements.now name) }
 {

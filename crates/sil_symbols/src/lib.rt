@@ -6,7 +6,6 @@ mod expressions;
 mod faults;
 mod labels;
 mod laws;
-mod limits;
 mod names;
 mod origin;
 mod outcome;
@@ -16,10 +15,7 @@ mod schedule;
 mod settling;
 mod stmt;
 mod symbols;
-#[cfg(test)]
-mod tests;
 
 pub use laws::{law_of_sizes, law_of_values};
-pub use limits::{MAX_CELLS, MAX_STATEMENTS};
 pub use stmt::Stmt;
 pub use symbols::{SymbolStop, Symbols, resolve};

@@ -2,9 +2,9 @@
 ghost use Rattle.std.specs.Prelude.{◌≤◌, length};
 
 use crate::labels::equation_of;
-use crate::limits::MAX_CARDS;
 use crate::names::Names;
 use crate::stmt::Stmt;
+use sil_base::MAX_CARDS;
 use sil_operands::{Expr, Factor};
 use std::alloc::{AllocError, Global};
 
@@ -46,7 +46,7 @@ impl Uses {
     }
 
     fn of(alloc: Global, statements: &[Stmt], names: &Names) -> Result<Uses, AllocError>
-        requires { length statements.now ≤ 40000 }
+        requires { length statements.now ≤ MAX_CARDS }
     {
         let mut uses = Uses {
             users: Vec::new(alloc),
@@ -93,7 +93,7 @@ pub(crate) fn schedule(
     statements: &[Stmt],
     names: &Names,
 ) -> Result<Vec<u32>, AllocError>
-    requires { length statements.now ≤ 40000 }
+    requires { length statements.now ≤ MAX_CARDS }
 {
     let Uses { users, mut waits } = Uses::of(alloc, statements, names)?;
     let mut order = Vec::new(alloc);

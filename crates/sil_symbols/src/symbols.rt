@@ -1,16 +1,16 @@
 // The symbols of a source.
 ghost use Rattle.std.specs.Prelude.{◌≡◌, ◌≤◌, [], length, map, IfOk, IfErr, OnOk, slice_index_or, false, Some, None, if◌then◌else◌};
+ghost use Rattle.sil_base.specs.Faults.{IsStopFor};
 ghost use Rattle.sil_symbols.specs.Symbols.{value_in, IsWithinLimits};
 ghost use Rattle.sil_symbols.specs.Parts.{part_of, is_format};
 ghost use Rattle.sil_symbols.specs.Rules.{value_rule, faults_from, faults_of, EndsOnce};
 ghost use Rattle.sil_symbols.specs.Held.{names_in, capped, HoldsNames};
-ghost use Rattle.sil_symbols.specs.Resolved.{symbol_value, expression_value, symbol_format, is_past, AreOutcomes, Resolves, StopsBy};
+ghost use Rattle.sil_symbols.specs.Resolved.{symbol_value, expression_value, symbol_format, is_past, AreOutcomes, Resolves};
 ghost use Rattle.sil_symbols.specs.declared.addresses.Spot.{Spot};
 
 use crate::addresses::{Spot, addresses_of};
 use crate::expressions::{outcome_of, outcome_of_name};
 use crate::faults::{name_faults, value_faults};
-use crate::limits::{MAX_CELLS, MAX_STATEMENTS};
 use crate::names::Names;
 use crate::outcome::Outcome;
 use crate::part::{Part, part_of};
@@ -19,27 +19,13 @@ use crate::schedule::schedule;
 use crate::settling::settle;
 use crate::stmt::Stmt;
 use layout_params::{Layout, Params};
-use sil_base::{Fault, Items};
+use sil_base::{Fault, FaultStop, Items, MAX_CARDS, MAX_CELLS, MAX_STATEMENTS};
 use sil_operands::Expr;
 use std::alloc::{AllocError, Global};
 
 /// Why a source has no symbols: the faults by the rules N, or where there are none by the rules V;
 /// or want of memory.
-#[derive(Debug, Drop)]
-pub enum SymbolStop {
-    Faults(Items<Fault>),
-    Memory,
-}
-
-impl From<AllocError> for SymbolStop {
-    ghost use Rattle.sil_symbols.specs.declared.symbols.SymbolStop.TheVariants.{Memory};
-
-    ghost from_gives = { λ _ e. e ≡ Memory };
-
-    fn from(_error: AllocError) -> SymbolStop {
-        SymbolStop::Memory
-    }
-}
+pub type SymbolStop = FaultStop;
 
 /// The symbols of a source, in the order of their definition.
 #[derive(Debug, Drop)]
@@ -143,7 +129,7 @@ fn outcomes_of(
     params: &Params,
     names: &Names,
 ) -> Result<Outcomes, AllocError>
-    requires { length statements.now ≤ 40000 }
+    requires { length statements.now ≤ MAX_CARDS }
     ensures { IfOk result (λ o. HoldsNames params.now statements.now names.now
         → AreOutcomes params.now statements.now names.now o) }
 {
@@ -181,21 +167,21 @@ fn faults_by(
 
 /// The symbols of statements, of which there are at most 40,000.
 pub fn resolve(alloc: Global, statements: &[Stmt], params: &Params) -> Result<Symbols, SymbolStop>
-    requires { length statements.now ≤ 40000 }
+    requires { length statements.now ≤ MAX_CARDS }
     ensures resolved { IfOk result (Resolves params.now statements.now) }
     ensures faultless { OnOk result (faults_of params.now statements.now ≡ []) }
     ensures limits { OnOk result (EndsOnce statements.now → IsWithinLimits params.now statements.now) }
-    ensures faults { IfErr result (StopsBy params.now statements.now) }
+    ensures faults { IfErr result (IsStopFor (faults_of params.now statements.now)) }
 {
     let names = Names::of(alloc, statements, params)?;
     let faults = name_faults(alloc, statements, &names)?;
     if !faults.is_empty() {
-        return Err(SymbolStop::Faults(Items::of(faults)));
+        return Err(FaultStop::Faults(Items::of(faults)));
     }
     let outcomes = outcomes_of(alloc, statements, params, &names)?;
     let faults = faults_by(alloc, statements, &names, &outcomes)?;
     if !faults.is_empty() {
-        return Err(SymbolStop::Faults(Items::of(faults)));
+        return Err(FaultStop::Faults(Items::of(faults)));
     }
     let formats = formats_of(alloc, statements)?;
     let Outcomes { outcomes, .. } = outcomes;

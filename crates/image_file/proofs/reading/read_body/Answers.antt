@@ -5,7 +5,8 @@ use Rattle.std.proofs.lemmas.Grind.{common_steps}
 use Rattle.layout_params.specs.Sizes.{Sizes}
 use Rattle.layout_params.specs.Parameters.{Settings}
 use Rattle.sil_macros.specs.declared.names.Macro.{Macro}
-use Rattle.image_file.specs.Image.{entry_of, places_rise, first_place}
+use Rattle.sil_base.specs.declared.places.TheConstants.{FIRST_WORD}
+use Rattle.image_file.specs.Image.{entry_of, places_rise}
 use Rattle.image_file.specs.Spelling.{entry_part, numbers_in}
 use Rattle.image_file.specs.Reading.{data_part}
 use Rattle.image_file.proofs.Spelled.{length-entries, length-numbers_in, statements_fit, words_fit, same_image}
@@ -34,7 +35,7 @@ returns-then-not-places_rise c = record {
       let words : get_or c.args.counts 1 0 ≡ length i.words = ap (λ xs. get_or xs 1 0) hc in
       let part = c.in_ok-part.ensures.again (flat_map entry_part i.statements) (numbers_in 4 i.words ++ data_part i) (length-entries i.statements ∙ ap (λ n. 16 * n) (sym count)) hb in
       let same = c.in_ok-statements.ensures.again i.statements (statements_fit i image) part.0 in
-      let rise = c.places_rise.ensures.places ∙ ap (λ xs. places_rise first_place (first_place + 4 * get_or c.args.counts 1 0) (map entry_of xs)) c.deref.ensures.value ∙ ap (λ es. places_rise first_place (first_place + 4 * get_or c.args.counts 1 0) es) same ∙ ap (λ n. places_rise first_place (first_place + 4 * n) i.statements) words ∙ image.places in
+      let rise = c.places_rise.ensures.places ∙ ap (λ xs. places_rise FIRST_WORD (FIRST_WORD + 4 * get_or c.args.counts 1 0) (map entry_of xs)) c.deref.ensures.value ∙ ap (λ es. places_rise FIRST_WORD (FIRST_WORD + 4 * get_or c.args.counts 1 0) es) same ∙ ap (λ n. places_rise FIRST_WORD (FIRST_WORD + 4 * n) i.statements) words ∙ image.places in
       let bad = c.if-not-places_rise.true in
       cc;
 }
@@ -91,8 +92,8 @@ of_parts-requires c =
       table_bytes = rw (tables, sizes.3) room.5;
       whole_tables = rw (tables, sizes.3) room.6;
       places =
-          ap (λ n. places_rise first_place (first_place + 4 * n) (map entry_of c.in_ok-statements.statements.items)) words
-          ∙ ap (λ xs. places_rise first_place (first_place + 4 * get_or c.args.counts 1 0) (map entry_of xs)) (sym list)
+          ap (λ n. places_rise FIRST_WORD (FIRST_WORD + 4 * n) (map entry_of c.in_ok-statements.statements.items)) words
+          ∙ ap (λ xs. places_rise FIRST_WORD (FIRST_WORD + 4 * get_or c.args.counts 1 0) (map entry_of xs)) (sym list)
           ∙ sym c.places_rise.ensures.places
           ∙ c.if-not-places_rise.false;
       cells =

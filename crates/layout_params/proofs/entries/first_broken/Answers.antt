@@ -3,7 +3,7 @@ use Rattle.std.proofs.lemmas.List.{length-map}
 use Rattle.std.proofs.lemmas.Iterator.{YieldsList-from_slice}
 use Rattle.std.proofs.lemmas.Iterator.Search.{position_from_yields_List}
 use Rattle.layout_params.specs.Lines.{breaks_form}
-use Rattle.layout_params.proofs.EntryLemmas.{position_or_len-map}
+use Rattle.sil_base.proofs.Searches.{position_or_len-map}
 use Rattle.layout_params.proofs.entries.first_broken.Goals as goal
 
 pub returns-clause-place : goal.returns-clause-place

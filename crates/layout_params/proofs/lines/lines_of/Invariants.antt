@@ -1,6 +1,6 @@
 use Rattle.std.proofs.Common.{◌≡◌, ◌≤◌, ◌+◌, ◌++◌, length, vec_len}
 use Rattle.layout_params.specs.Lines.{lines_of}
-use Rattle.layout_params.specs.Held.{texts_of}
+use Rattle.sil_base.specs.Names.{texts_of}
 use Rattle.layout_params.proofs.lines.lines_of.Given as goal
 
 -- the lines so far, and those of the rest

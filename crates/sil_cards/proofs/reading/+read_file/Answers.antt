@@ -1,6 +1,6 @@
 use Rattle.std.proofs.Common.{◌∙◌, ◌++◌, arith}
 use Rattle.std.proofs.lemmas.Result.{err_from_is_err_and}
-use Rattle.sil_cards.specs.Lines.{lines_of}
+use Rattle.sil_base.specs.Lines.{lines_of}
 use Rattle.sil_cards.specs.Reads.{lines_read, file_read}
 use Rattle.sil_cards.proofs.ReadLemmas.{after_copied}
 use Rattle.sil_cards.proofs.reading.+read_file.Goals as goal

@@ -7,9 +7,8 @@ use Rattle.sil_check.proofs.arguments.args_of.Given as goal
 
 abbrev pub invariant-loop-place : goal.invariant-loop-place
 invariant-loop-place l =
-    let size = l.source.params.now.settings.sizes.descr in
     let values = value_of l.source.params.now l.source.statements.now in
     record {
-      args : args_of size l.source.cells.now values l.places l.initial.rest ≡ after l.args.items (args_of size l.source.cells.now values (drop l.place-index l.places) l.rest);
+      args : args_of values l.places l.initial.rest ≡ after l.args.items (args_of values (drop l.place-index l.places) l.rest);
       fit : All FitsNumber l.args.items;
     }

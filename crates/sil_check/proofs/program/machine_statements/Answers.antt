@@ -12,8 +12,6 @@ use Rattle.sil_check.proofs.program.machine_statements.Goals.{then-not-is_assemb
 
 pub loop-statement-preserved : goal.loop-statement-preserved
 loop-statement-preserved c =
-    let size = c.args.source.now.params.now.settings.sizes.descr in
-    let cells = c.args.source.now.cells.now in
     let values = value_of c.args.source.now.params.now c.args.source.now.statements.now in
     let source = c.args.source.now.statements.now in
     let made = c.loop-statement.made.items in
@@ -27,8 +25,8 @@ loop-statement-preserved c =
           let runs : (row s.name).assembly ≡ false = sym c.is_assembly.ensures ∙ w.if-not-is_assembly.true in
           record {
             statements = c.loop-statement.invariant.statements
-                ∙ taken size cells values source i s made x c.loop-statement-test.true c.statement-item.is runs w.in_ok-machine_statement.ensures.statement
-                ∙ ap (λ xs. after xs (machine_statements size cells values (drop (i + 1) source))) (sym items);
+                ∙ taken values source i s made x c.loop-statement-test.true c.statement-item.is runs w.in_ok-machine_statement.ensures.statement
+                ∙ ap (λ xs. after xs (machine_statements values (drop (i + 1) source))) (sym items);
             fit = subst P (sym items) (All-push HasFitNumbers made x c.loop-statement.invariant.fit w.in_ok-machine_statement.ensures.fit);
             few = omega (arith, ap vec_len w.made-is, w.in_ok-push.ensures.len, c.loop-statement.invariant.few);
           }
@@ -37,8 +35,8 @@ loop-statement-preserved c =
           let passed : (row s.name).assembly ≡ true = sym c.is_assembly.ensures ∙ w.if-not-is_assembly.false in
           record {
             statements = c.loop-statement.invariant.statements
-                ∙ ap (after made) (passed_over size cells values source i s c.loop-statement-test.true c.statement-item.is passed)
-                ∙ ap (λ xs. after xs (machine_statements size cells values (drop (i + 1) source))) (sym items);
+                ∙ ap (after made) (passed_over values source i s c.loop-statement-test.true c.statement-item.is passed)
+                ∙ ap (λ xs. after xs (machine_statements values (drop (i + 1) source))) (sym items);
             fit = subst P (sym items) c.loop-statement.invariant.fit;
             few = omega (arith, ap vec_len w.made-is, c.loop-statement.invariant.few);
           }

@@ -8,11 +8,10 @@ use Rattle.sil_check.proofs.program.machine_statements.Given as goal
 
 abbrev pub invariant-loop-statement : goal.invariant-loop-statement
 invariant-loop-statement l =
-    let size = l.source.params.now.settings.sizes.descr in
     let values = value_of l.source.params.now l.source.statements.now in
     record {
-      statements : machine_statements size l.source.cells.now values l.source.statements.now
-          ≡ after l.made.items (machine_statements size l.source.cells.now values (drop l.statement-index l.source.statements.now));
+      statements : machine_statements values l.source.statements.now
+          ≡ after l.made.items (machine_statements values (drop l.statement-index l.source.statements.now));
       fit : All HasFitNumbers l.made.items;
       few : vec_len l.made ≤ l.statement-index;
     }

@@ -8,14 +8,14 @@ use Rattle.sil_check.proofs.ProgramLemmas.{checked}
 use Rattle.sil_check.proofs.source.check.Goals as goal
 
 -- the statements are those of the cards
-same : (c : goal.After-deref) → c.deref.result.now ≡ statements_of c.args.cards.now
+same : (c : goal.After-deref) → c.deref.result.now ≡ statements_of c.args.cards.items
 same c = c.deref.ensures.value ∙ c.in_ok-statements.ensures
 
 pub check_statements-requires-clause-ended : goal.check_statements-requires-clause-ended
-check_statements-requires-clause-ended c = subst EndsOnce (sym (same c)) (ended c.args.cards.now c.requires.good.good c.requires.good.ends)
+check_statements-requires-clause-ended c = subst EndsOnce (sym (same c)) (ended c.args.cards.items c.requires.good.good c.requires.good.ends)
 
 pub returns-clause-well_formed : goal.returns-clause-well_formed
 returns-clause-well_formed c = IfOk-weaker c.check_statements.result _ _ (λ p h. (checked c.args.params.now c.deref.result.now p h).well_formed) c.check_statements.ensures.made
 
-pub returns-clause-operands : goal.returns-clause-operands
-returns-clause-operands c = IfOk-weaker c.check_statements.result _ _ (λ p h. (checked c.args.params.now c.deref.result.now p h).operands) c.check_statements.ensures.made
+pub returns-clause-built : goal.returns-clause-built
+returns-clause-built c = IfOk-weaker c.check_statements.result _ _ (λ p h. (checked c.args.params.now c.deref.result.now p h).built) c.check_statements.ensures.made

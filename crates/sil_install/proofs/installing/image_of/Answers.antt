@@ -1,7 +1,7 @@
 use Rattle.std.proofs.Common.{length, map, All, sym, ap, subst, ◌∙◌}
 use Rattle.std.specs.List.{flat_map}
 use Rattle.layout_params.specs.Packing.{FitsFields, packing}
-use Rattle.image_file.specs.Parts.{IsImageOf, kind_of}
+use Rattle.rv_emit.specs.Parts.{IsImageOf, kind_of}
 use Rattle.rv_emit.specs.Emits.{FitsImage, Carries}
 use Rattle.rv_emit.specs.Code.{last_place}
 use Rattle.sil_install.specs.Installed.{Behaves}
@@ -33,7 +33,7 @@ unreachable-requires c =
       marks = c.in_ok-kinds.ensures ∙ ap (map kind_of) c.items-cells.ensures;
       none = c.new.ensures.items;
     } in
-    c.in-None.ensures (is_image c.args.program.now c.args.params.now.settings c.requires c.in_ok-entries.entries.items c.into_items.result.items c.in_ok-emitted.emitted.places c.into_items-2.result.items c.in_ok-bytes.bytes.items c.in_ok-kinds.kinds.items c.new.result.items g)
+    c.in-None.ensures (is_image c.args.program.now c.args.params.now c.requires c.in_ok-entries.entries.items c.into_items.result.items c.in_ok-emitted.emitted.places c.into_items-2.result.items c.in_ok-bytes.bytes.items c.in_ok-kinds.kinds.items c.new.result.items g)
 
 pub returns-clause-of : goal.returns-clause-of
 returns-clause-of c =
@@ -50,7 +50,7 @@ returns-clause-of c =
       marks = c.in_ok-kinds.ensures ∙ ap (map kind_of) c.items-cells.ensures;
       none = c.new.ensures.items;
     } in
-    subst (λ i. IsImageOf i c.args.program.now c.args.params.now.settings) (sym c.in-Some.ensures) (is_of c.args.program.now c.args.params.now.settings c.requires c.in_ok-entries.entries.items c.into_items.result.items c.in_ok-emitted.emitted.places c.into_items-2.result.items c.in_ok-bytes.bytes.items c.in_ok-kinds.kinds.items c.new.result.items g)
+    subst (λ i. IsImageOf i c.args.program.now c.args.params.now.settings) (sym c.in-Some.ensures) (is_of c.args.program.now c.args.params.now c.requires c.in_ok-entries.entries.items c.into_items.result.items c.in_ok-emitted.emitted.places c.into_items-2.result.items c.in_ok-bytes.bytes.items c.in_ok-kinds.kinds.items c.new.result.items g)
 
 pub returns-clause-behaves : goal.returns-clause-behaves
 returns-clause-behaves c =
@@ -67,5 +67,5 @@ returns-clause-behaves c =
       marks = c.in_ok-kinds.ensures ∙ ap (map kind_of) c.items-cells.ensures;
       none = c.new.ensures.items;
     } in
-    let carries = subst (λ ws. Carries c.args.program.now c.args.params.now.settings ws c.in_ok-emitted.emitted.places (last_place c.args.program.now c.args.params.now.settings)) (sym c.into_items.ensures) e.carries in
-    subst (λ i. Behaves i c.args.program.now c.args.params.now.settings) (sym c.in-Some.ensures) (behaves c.args.program.now c.args.params.now.settings c.requires c.in_ok-entries.entries.items c.into_items.result.items c.in_ok-emitted.emitted.places c.into_items-2.result.items c.in_ok-bytes.bytes.items c.in_ok-kinds.kinds.items c.new.result.items g carries)
+    let carries = subst (λ ws. Carries c.args.program.now c.args.params.now ws c.in_ok-emitted.emitted.places (last_place c.args.program.now c.args.params.now.settings)) (sym c.into_items.ensures) e.carries in
+    subst (λ i. Behaves i c.args.program.now c.args.params.now) (sym c.in-Some.ensures) (behaves c.args.program.now c.args.params.now c.requires c.in_ok-entries.entries.items c.into_items.result.items c.in_ok-emitted.emitted.places c.into_items-2.result.items c.in_ok-bytes.bytes.items c.in_ok-kinds.kinds.items c.new.result.items g c.law_of_steps.ensures carries)

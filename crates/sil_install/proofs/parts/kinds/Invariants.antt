@@ -1,6 +1,6 @@
 use Rattle.std.proofs.Common.{◌≡◌, take}
 use Rattle.std.specs.Prelude.{map}
-use Rattle.image_file.specs.Parts.{kind_of}
+use Rattle.rv_emit.specs.Parts.{kind_of}
 use Rattle.sil_install.proofs.parts.kinds.Given as goal
 
 abbrev pub invariant-loop-cell : goal.invariant-loop-cell

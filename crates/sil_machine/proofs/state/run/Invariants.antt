@@ -1,12 +1,12 @@
-use Rattle.std.proofs.Common.{◌≡◌, ◌+◌, ◌-◌, ◌≤◌, ◌^◌}
-use Rattle.sil_base.specs.Units.{tapes_of}
-use Rattle.sil_machine.specs.Outcomes.{outcome_of}
-use Rattle.sil_machine.specs.Positions.{state_of}
+use Rattle.std.proofs.Common.{◌+◌, ◌-◌, ◌≤◌, ◌^◌}
+use Rattle.unit_io.specs.Units.{tapes_of}
+use Rattle.sil_machine.specs.Outcomes.{IsAs, outcome_of}
+use Rattle.sil_machine.specs.Positions.{state_at}
 use Rattle.sil_machine.proofs.state.run.Given as goal
 
--- the steps that are left end as all of them do
+-- the steps that are left end as all of them do, where these have an end
 abbrev pub invariant-loop-i : goal.invariant-loop-i
-invariant-loop-i g l =
-    (outcome_of l.program (l.n - l.i) (state_of l.program l.at (tapes_of (g.U.UnitSet.seen l.units))) ≡ outcome_of l.program l.n (state_of l.program l.fn.at (tapes_of (g.U.UnitSet.seen l.fn.units))))
-    × (l.at.steps + (l.n - l.i) ≤ 2 ^ 40)
-    × (g.U.UnitSet.seen l.units ≡ g.U.UnitSet.seen l.fn.units)
+invariant-loop-i g l = record {
+  ends : IsAs (outcome_of l.program l.params (l.n - l.i) (state_at l.at (tapes_of (g.U.UnitSet.seen l.units)))) (outcome_of l.program l.params l.n (state_at l.fn.at (tapes_of (g.U.UnitSet.seen l.fn.units))));
+  steps : l.at.steps + (l.n - l.i) ≤ 2 ^ 40;
+}

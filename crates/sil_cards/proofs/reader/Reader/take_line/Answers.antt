@@ -1,8 +1,8 @@
-use Rattle.std.proofs.Common.{◌≡◌, length, ap, ◌∙◌}
-use Rattle.sil_cards.specs.Lines.{without_end}
+use Rattle.std.proofs.Common.{◌≡◌, length, ap, sym, ◌∙◌}
+use Rattle.sil_base.specs.Lines.{without_end}
 use Rattle.sil_cards.specs.Readings.{is_full}
 use Rattle.sil_cards.specs.Verdicts.{is_end, verdict}
-use Rattle.sil_cards.proofs.CardLemmas.{Gives, ends_line, goes_line, goes_either}
+use Rattle.sil_cards.proofs.CardLemmas.{Gives, ends_line, goes_line, goes_either, taken_within}
 use Rattle.sil_cards.proofs.ReadLemmas.{step_copies}
 use Rattle.sil_cards.proofs.reader.Reader.take_line.Goals as goal
 use Rattle.sil_cards.proofs.reader.Reader.take_line.Goals.{In_ok-note}
@@ -14,8 +14,12 @@ gives c =
     let faults = c.in_ok-note.ensures.faults in
     let v = c.limited-verdict.ensures in
     let full = c.is_full-full.ensures in
-    let judged = c.in_ok-judge.ensures in
+    let judged = c.in_ok-verdict.ensures.verdict in
     record { verdict = cc; number = n.0; bytes = n.1; cards = cards; faults = faults }
+
+pub note-requires : goal.note-requires
+note-requires c = λ taken.
+    c.in_ok-verdict.ensures.contents (taken_within c.is_full-full.result _ (sym c.limited-verdict.ensures ∙ taken))
 
 pub returns-then-is_last-clause-keeps : goal.returns-then-is_last-clause-keeps
 returns-then-is_last-clause-keeps c =

@@ -1,5 +1,0 @@
-use Rattle.std.proofs.Common.{length}
-use Rattle.image_file.proofs.legal.+are_bits.Given as goal
-
-abbrev pub decreases-are_bits : goal.decreases-are_bits
-decreases-are_bits l = length l.flags.now

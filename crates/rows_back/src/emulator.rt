@@ -1,0 +1,204 @@
+// Runs of the emulator, from their start to their end.
+use image_file::Image;
+use layout_params::{ParamStop, STANDARD_PARAMS, read_params};
+use rv_emulate::{Cpu, CpuEnd, CpuStep, budget};
+use rv_isa::{BOp, Instr, encode};
+use sil_macros::Macro;
+use std::alloc::{AllocError, Global};
+use std::test::Fail;
+use unit_io::Units;
+
+/// An image of these words, nine constants and a table, with 166 cells of 16 bytes, whose one statement is at the
+/// first of the words.
+fn image_of(alloc: Global, words: &[u32]) -> Result<Option<Image>, ParamStop> {
+    Ok(Image::new(
+        &read_params(alloc, STANDARD_PARAMS)?,
+        Vec::from_slice(alloc, &[(0x1_0000, 1, Macro::Endex)])?,
+        Vec::from_slice(alloc, words)?,
+        Vec::from_slice(
+            alloc,
+            &[0x80u8, 0x81, 0x82, 0x83, 0x84, 0x85, 0x86, 0x87, 2],
+        )?,
+        Vec::new(alloc),
+        Vec::new(alloc),
+        vec![in alloc; 0u8; 4096]?,
+    ))
+}
+
+fn cpu_of(alloc: Global, words: &[u32]) -> Result<Option<Cpu>, ParamStop> {
+    let Some(image) = image_of(alloc, words)? else {
+        return Ok(None);
+    };
+    Ok(Some(Cpu::new(alloc, &image, 1)?))
+}
+
+/// How a run of these words ends within a thousand instructions.
+fn end_of(alloc: Global, words: &[u32]) -> Result<Option<CpuEnd>, ParamStop> {
+    let Some(mut cpu) = cpu_of(alloc, words)? else {
+        return Ok(None);
+    };
+    Ok(Some(cpu.run(&mut Units::new(), 1000)))
+}
+
+/// Words that make a number in a register: SLLI by eight and ORI of the next byte, eight times.
+fn make_number(words: &mut Vec<u32>, register: u32, number: u64) -> Result<(), AllocError> {
+    let both = register << 7 | register << 15;
+    for byte in number.to_be_bytes() {
+        words.push(0x0080_1013 | both)?;
+        words.push(0x0000_6013 | both | u32::from(byte) << 20)?;
+    }
+    Ok(())
+}
+
+/// Where the words stand behind so many registers' numbers, a jump and two tests.
+pub fn place_after(registers: u64) -> u64 {
+    registers.wrapping_mul(64).wrapping_add(0x1_000c)
+}
+
+/// Words that make registers, then these words. Before them and behind them stand tests that x5 is x8, each of
+/// which jumps by 64 where that is so, to a word that is no instruction.
+fn code_of(alloc: Global, registers: &[(u32, u64)], words: &[u32]) -> Result<Vec<u32>, AllocError> {
+    let test = encode(Instr::B {
+        op: BOp::Beq,
+        rs1: 5,
+        rs2: 8,
+        imm: 64,
+    });
+    let mut code = Vec::new(alloc);
+    for (register, number) in registers {
+        make_number(&mut code, *register, *number)?;
+    }
+    code.push(encode(Instr::J { rd: 0, imm: 12 }))?;
+    code.extend_from_slice(&[test; 2])?;
+    code.extend_from_slice(words)?;
+    code.extend_from_slice(&[test; 3])?;
+    code.extend_from_slice(&[0; 40])?;
+    Ok(code)
+}
+
+/// How a run of such words ends.
+pub fn end_after(
+    alloc: Global,
+    registers: &[(u32, u64)],
+    words: &[u32],
+) -> Result<Option<CpuEnd>, ParamStop> {
+    end_of(alloc, &code_of(alloc, registers, words)?)
+}
+
+/// How it ends where it comes to this place, and x5 is x8 there.
+pub fn lands(place: u64) -> Option<CpuEnd> {
+    Some(CpuEnd::Illegal(place.wrapping_add(64)))
+}
+
+/// What the first of such words answers.
+pub fn answer_after(
+    alloc: Global,
+    registers: &[(u32, u64)],
+    word: u32,
+) -> Result<Option<CpuStep>, ParamStop> {
+    let Some(mut cpu) = cpu_of(alloc, &code_of(alloc, registers, &[word])?)? else {
+        return Ok(None);
+    };
+    let mut units = Units::new();
+    for _ in registers {
+        let _ = cpu.run(&mut units, 16);
+    }
+    let _ = cpu.step(&mut units);
+    Ok(Some(cpu.step(&mut units)))
+}
+
+/// Words, and how a run of them ends.
+static ENDS: [(&[u32], CpuEnd); 8] = [
+    // ends by calls: an exit, a trap by a constant, and a call of no number
+    (&[0x0010_0513, 0x0010_0893, 0x0000_0073], CpuEnd::Exit(1)),
+    (
+        &[0x6800_02b7, 0x0082_c503, 0x0010_0893, 0x0000_0073],
+        CpuEnd::Trap(0),
+    ),
+    (&[0x0090_0893, 0x0000_0073], CpuEnd::BadCall(0x1_0004)),
+    // an end by a unit fault after a call that didn't fail
+    (
+        &[
+            0x0040_0893,
+            0x0000_0073,
+            0x0010_0893,
+            0x0050_0513,
+            0x0000_0073,
+        ],
+        CpuEnd::BadCall(0x1_0010),
+    ),
+    // no instruction, a store to the constants, a load off its places, and a fetch past the end
+    (&[0], CpuEnd::Illegal(0x1_0000)),
+    (&[0x6800_02b7, 0x0002_8023], CpuEnd::Store(0x1_0004)),
+    (&[0x6c00_02b7, 0x0042_b303], CpuEnd::Load(0x1_0004)),
+    (&[0x0010_0513], CpuEnd::Fetch(0x1_0004)),
+];
+
+#[test]
+fn calls_and_faults_end_runs(rt: HostRuntime) -> Result<(), Fail> {
+    for &(words, end) in &ENDS {
+        assert_eq!(rt; end_of(rt.alloc(), words)?, Some(end));
+    }
+    Ok(())
+}
+
+#[test]
+fn a_run_goes_on_after_its_budget_and_not_after_its_end(rt: HostRuntime) -> Result<(), Fail> {
+    let mut units = Units::new();
+    let Some(mut cpu) = cpu_of(rt.alloc(), &[0x0000_006f])? else {
+        panic!(rt; "an image of a loop");
+    };
+    assert_eq!(rt; cpu.met(), Some(0));
+    assert_eq!(rt; cpu.step(&mut units), CpuStep::Next);
+    assert_eq!(rt; cpu.run(&mut units, 10), CpuEnd::Runaway);
+    assert_eq!(rt; cpu.run(&mut units, 0), CpuEnd::Runaway);
+    let Some(mut cpu) = cpu_of(rt.alloc(), &[0x0010_0893, 0x0000_0073])? else {
+        panic!(rt; "an image of an exit");
+    };
+    assert_eq!(rt; cpu.run(&mut units, 2), CpuEnd::Exit(0));
+    assert_eq!(rt; cpu.run(&mut units, 0), CpuEnd::Exit(0));
+    assert_eq!(rt; cpu.step(&mut units), CpuStep::Ended(CpuEnd::Exit(0)));
+    assert_eq!(rt; cpu.met(), None);
+    Ok(())
+}
+
+#[test]
+fn budgets_count_cells_and_statements(rt: HostRuntime) -> Result<(), Fail> {
+    let Some(image) = image_of(rt.alloc(), &[0])? else {
+        panic!(rt; "an image of a word");
+    };
+    assert_eq!(rt; budget(&image, 1), 11_780_000);
+    Ok(())
+}
+
+#[test]
+fn a_statement_is_met_at_its_place(rt: HostRuntime) -> Result<(), Fail> {
+    let alloc = rt.alloc();
+    let image = Image::new(
+        &read_params(alloc, STANDARD_PARAMS)?,
+        Vec::from_slice(
+            alloc,
+            &[(0x1_0000, 1, Macro::Movd), (0x1_0008, 2, Macro::Endex)],
+        )?,
+        Vec::from_slice(alloc, &[0x0010_0893u32, 0x0000_0513, 0x0000_0073])?,
+        Vec::new(alloc),
+        Vec::new(alloc),
+        Vec::new(alloc),
+        Vec::new(alloc),
+    );
+    let Some(image) = image else {
+        panic!(rt; "an image of two statements");
+    };
+    let mut cpu = Cpu::new(alloc, &image, 1)?;
+    let mut units = Units::new();
+    let rows = [
+        (Some(0), CpuStep::Next),
+        (None, CpuStep::Next),
+        (Some(1), CpuStep::Ended(CpuEnd::Exit(0))),
+    ];
+    for (met, answer) in rows {
+        assert_eq!(rt; cpu.met(), met);
+        assert_eq!(rt; cpu.step(&mut units), answer);
+    }
+    Ok(())
+}

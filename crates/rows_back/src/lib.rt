@@ -1,0 +1,15 @@
+// Worked rows of images, instructions and the emulator.
+#![tactic(auto)]
+
+#[cfg(test)]
+mod accesses;
+#[cfg(test)]
+mod emulator;
+#[cfg(test)]
+mod images;
+#[cfg(test)]
+mod model;
+#[cfg(test)]
+mod results;
+#[cfg(test)]
+mod words;

@@ -1,0 +1,13 @@
+// Worked rows of what reads and checks a source: cards, symbols, data and programs.
+#![tactic(auto)]
+
+#[cfg(test)]
+mod cards;
+#[cfg(test)]
+mod check;
+#[cfg(test)]
+mod data;
+#[cfg(test)]
+mod symbols;
+#[cfg(test)]
+mod texts;

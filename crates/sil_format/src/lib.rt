@@ -1,0 +1,19 @@
+// Formats, and the records that they lay out.
+#![tactic(auto)]
+
+mod cutting;
+mod fields;
+mod format;
+mod laws;
+mod laying;
+mod reading;
+mod sheet;
+mod value;
+
+pub use format::{DataKind, Format, FormatStop, Item};
+pub use laws::{
+    one_format_at_most, passes_are_enough, what_is_read_is_spelled, what_is_spelled_is_read,
+};
+pub use laying::lay_out;
+pub use reading::read_format;
+pub use value::{Laid, Value};

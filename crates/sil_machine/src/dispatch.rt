@@ -1,0 +1,91 @@
+// What a statement does, by its macro.
+ghost use Rattle.std.specs.Prelude.{◌≡◌, ◌≤◌, ◌^◌, ℕ, Err, false, true};
+ghost use Rattle.unit_io.specs.Tapes.{Tapes};
+ghost use Rattle.unit_io.specs.Units.{RoseAt, tapes_of};
+ghost use Rattle.sil_model.specs.Prints.{writes_records};
+ghost use Rattle.sil_model.specs.Table.{calls_unit, clause};
+ghost use Rattle.sil_machine.specs.Parts.{Meets, left_by, state_of};
+
+use crate::clauses::{endex, incra, movd};
+use crate::parts::{Parts, Stop};
+use crate::site::Site;
+use sil_macros::Macro;
+use sil_model::Flow;
+use unit_io::UnitSet;
+
+/// What a statement does whose macro calls a unit. None of these macros is built yet.
+#[tactic(auto, unfolding(sil_model::specs::Table::clause), using(crate::proofs::Meeting::meets))]
+fn perform_on_units<U: UnitSet>(
+    name: Macro,
+    site: &Site,
+    parts: &mut Parts,
+    units: &mut U,
+) -> Result<Flow, Stop>
+    requires { calls_unit name ≡ true }
+    ensures meets { (k steps : ℕ) → let s = state_of k steps parts.old (tapes_of (U.seen units.old))
+        in Meets s (clause name site.now s) result (state_of k steps parts.new (tapes_of (U.seen units.new))) }
+    ensures printing { result ≡ Err Stop.Memory → writes_records name ≡ true }
+    ensures cut { result ≡ Err Stop.Memory → tapes_of (U.seen units.new) ≡ tapes_of (U.seen units.old) }
+    ensures faults { (unit : ℕ) → result ≡ Err (Stop.UnitFault unit) → RoseAt unit (U.seen units.old) (U.seen units.new) }
+{
+    match name {
+        _ => Err(Stop::Undefined),
+    }
+}
+
+/// What a statement does whose macro calls no unit.
+#[tactic(auto, unfolding(sil_model::specs::Table::clause))]
+fn perform_alone(name: Macro, site: &Site, steps: u64, parts: &mut Parts) -> Option<Flow>
+    requires few { steps ≤ 2 ^ 40 }
+    requires alone { calls_unit name ≡ false }
+    ensures { (k : ℕ) (tapes : Tapes) → clause name site.now (state_of k steps parts.old tapes) ≡ left_by result (state_of k steps parts.new tapes) }
+{
+    match name {
+        Macro::Endex => endex(site.args(), &mut parts.cells),
+        Macro::Incra => incra(site.args(), &mut parts.cells),
+        Macro::Movd => movd(site.args(), &mut parts.cells),
+        _ => None,
+    }
+}
+
+/// What a statement of this macro does.
+#[tactic(auto, using(crate::proofs::Meeting::meets))]
+pub fn perform<U: UnitSet>(
+    name: Macro,
+    site: &Site,
+    steps: u64,
+    parts: &mut Parts,
+    units: &mut U,
+) -> Result<Flow, Stop>
+    requires { steps ≤ 2 ^ 40 }
+    ensures meets { (k : ℕ) → let s = state_of k steps parts.old (tapes_of (U.seen units.old))
+        in Meets s (clause name site.now s) result (state_of k steps parts.new (tapes_of (U.seen units.new))) }
+    ensures stays { calls_unit name ≡ false → U.seen units.new ≡ U.seen units.old }
+    ensures printing { result ≡ Err Stop.Memory → writes_records name ≡ true }
+    ensures cut { result ≡ Err Stop.Memory → tapes_of (U.seen units.new) ≡ tapes_of (U.seen units.old) }
+    ensures faults { (unit : ℕ) → result ≡ Err (Stop.UnitFault unit) → RoseAt unit (U.seen units.old) (U.seen units.new) }
+{
+    if calls_unit(name) {
+        perform_on_units(name, site, parts, units)
+    } else {
+        match perform_alone(name, site, steps, parts) {
+            Some(flow) => Ok(flow),
+            None => Err(Stop::Undefined),
+        }
+    }
+}
+
+/// Whether the macro calls a unit.
+fn calls_unit(name: Macro) -> bool
+    ensures { result ≡ calls_unit name }
+{
+    matches!(
+        name,
+        Macro::Bkspce
+            | Macro::Enfile
+            | Macro::Output
+            | Macro::Rewind
+            | Macro::Stprnt
+            | Macro::Stread
+    )
+}

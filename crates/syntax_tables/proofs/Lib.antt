@@ -1,0 +1,5 @@
+pub mod Cuts
+pub mod Lists
+pub mod Readings
+pub mod Filled
+pub mod Counts

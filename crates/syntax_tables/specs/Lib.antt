@@ -1,0 +1,5 @@
+pub mod Texts
+pub mod Sayings
+pub mod Files
+pub mod Going
+pub mod Tables

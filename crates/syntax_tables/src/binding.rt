@@ -1,0 +1,146 @@
+// The tables of a program, by its symbols.
+ghost use Rattle.std.specs.Prelude.{◌≡◌, ◌+◌, ◌≤◌, ◌++◌, [], List, All, take, length, IfOk, IfErr, OnOk};
+ghost use Rattle.std.specs.List.{list_any};
+ghost use Rattle.sil_base.specs.Faults.{IsStopFor};
+ghost use Rattle.sil_base.specs.Names.{is_word};
+ghost use Rattle.sil_base.specs.declared.line.Fault.{Fault};
+ghost use Rattle.sil_model.specs.WellFormed.{IsTable};
+ghost use Rattle.sil_symbols.specs.Resolved.{expression_value};
+ghost use Rattle.syntax_tables.specs.Files.{names_in};
+ghost use Rattle.syntax_tables.specs.Tables.{goes_astray, lacks_value, broken_by_rule, broken_by_name, broken_by, with_fault, count_after, faults_from, faults_of, tables_of};
+
+use crate::reading::TableStop;
+use crate::rule::{Move, Rule};
+use crate::saying::{Said, Saying};
+use crate::tables::tables_in;
+use crate::written::{Written, table_named};
+use sil_base::{Fault, FaultStop, Items, MAX_TABLES, Record, TABLES_FILE, fault_at};
+use sil_model::Table;
+use sil_operands::Expr;
+use sil_symbols::Symbols;
+use std::alloc::{AllocError, Global};
+
+fn goes_astray(names: &[Record], action: &Move) -> bool
+    ensures { result ≡ goes_astray names.now action.now }
+{
+    match action {
+        Move::Goto(name) => table_named(names, name.bytes()).is_none(),
+        Move::Contin | Move::Stop | Move::Stopsh | Move::Error => false,
+    }
+}
+
+fn lacks_value(symbols: &Symbols, put: &Option<Expr>) -> bool
+    ensures { result ≡ lacks_value (expression_value symbols.now) put.now }
+{
+    match put {
+        Some(expr) => symbols.value(expr).is_none(),
+        None => false,
+    }
+}
+
+fn broken_by_rule(symbols: &Symbols, names: &[Record], rule: &Rule) -> Option<u8>
+    ensures { result ≡ broken_by_rule (expression_value symbols.now) names.now rule.now }
+{
+    if goes_astray(names, &rule.action) {
+        Some(5)
+    } else if lacks_value(symbols, &rule.put) {
+        Some(6)
+    } else {
+        None
+    }
+}
+
+/// Whether one of so many names is this one.
+fn is_before(names: &[Record], count: usize, name: &[u8]) -> bool
+    requires { count ≤ length names.now }
+    ensures { result ≡ list_any (is_word name.now) (take count names.now) }
+{
+    names[..count].iter().any(|other| name == other.bytes())
+}
+
+fn broken_by_name(names: &[Record], count: usize, name: &[u8]) -> Option<u8>
+    requires { count ≤ length names.now }
+    ensures { result ≡ broken_by_name names.now count name.now }
+{
+    if is_before(names, count, name) {
+        Some(3)
+    } else if count == MAX_TABLES {
+        Some(4)
+    } else {
+        None
+    }
+}
+
+/// The least rule that a line breaks, after so many tables.
+fn broken_by(symbols: &Symbols, names: &[Record], count: usize, saying: &Saying) -> Option<u8>
+    requires { count ≤ length names.now }
+    ensures { result ≡ broken_by (expression_value symbols.now) names.now count saying.now }
+{
+    match saying {
+        Saying::Begin(name) => broken_by_name(names, count, name.bytes()),
+        Saying::For(_, rule) | Saying::Else(rule) => broken_by_rule(symbols, names, rule),
+        Saying::End(_) => None,
+    }
+}
+
+/// Appends the fault of a line, where it breaks a rule.
+fn push_fault(faults: &mut Vec<Fault>, line: u32, rule: Option<u8>) -> Result<(), AllocError>
+    ensures { OnOk result ((rest : List Fault) → faults.new.items ++ rest ≡ faults.old.items ++ with_fault line rule rest) }
+{
+    if let Some(rule) = rule {
+        faults.push(fault_at(TABLES_FILE, b'T', line, rule))?;
+    }
+    Ok(())
+}
+
+/// The lines that break a rule.
+#[tactic(auto, unfolding(crate::specs::Tables::faults_of))]
+fn faults_of(
+    alloc: Global,
+    symbols: &Symbols,
+    names: &[Record],
+    lines: &[Said],
+) -> Result<Vec<Fault>, AllocError>
+    requires { names.now ≡ names_in lines.now }
+    ensures { IfOk result (λ v. v.items ≡ faults_of (expression_value symbols.now) lines.now) }
+{
+    let mut faults = Vec::new(alloc);
+    let mut count = 0;
+    for said in lines {
+        let rule = broken_by(symbols, names, count, &said.saying);
+        push_fault(&mut faults, said.line, rule)?;
+        if let Saying::Begin(_) = &said.saying {
+            count += 1;
+        }
+    }
+    Ok(faults)
+}
+
+/// Stops at the lines that break a rule, where there are any.
+fn stop_at_faults(alloc: Global, written: &Written, symbols: &Symbols) -> Result<(), TableStop>
+    ensures faultless { OnOk result (faults_of (expression_value symbols.now) written.now ≡ []) }
+    ensures faults { IfErr result (IsStopFor (faults_of (expression_value symbols.now) written.now)) }
+{
+    let faults = faults_of(alloc, symbols, written.names(), written.lines())?;
+    if faults.is_empty() {
+        Ok(())
+    } else {
+        Err(FaultStop::Faults(Items::of(faults)))
+    }
+}
+
+/// The tables that a file writes, numbered from 0 in its order. Faults have the letter T: 3 a BEGIN
+/// of a name that an earlier table has, 4 the BEGIN of the 257th table, 5 a GOTO that names no
+/// table, 6 an expression of PUT without a value.
+#[tactic(auto, unfolding(crate::specs::Tables::tables_of))]
+pub fn bind(alloc: Global, written: &Written, symbols: &Symbols) -> Result<Vec<Table>, TableStop>
+    ensures tables { IfOk result (λ v. v.items ≡ tables_of (expression_value symbols.now) written.now) }
+    ensures count { IfOk result (λ v. length v.items ≡ length (names_in written.now)) }
+    ensures few { IfOk result (λ v. length v.items ≤ MAX_TABLES) }
+    ensures good { IfOk result (λ v. All (IsTable (length v.items)) v.items) }
+    ensures faultless { OnOk result (faults_of (expression_value symbols.now) written.now ≡ []) }
+    ensures faults { IfErr result (IsStopFor (faults_of (expression_value symbols.now) written.now)) }
+{
+    stop_at_faults(alloc, written, symbols)?;
+    Ok(tables_in(alloc, symbols, written.names(), written.lines())?)
+}

@@ -1,0 +1,8 @@
+pub mod Numbered
+pub mod Tapes
+pub mod Runs
+pub mod Answers
+pub mod Units
+pub mod Calls
+pub mod Slots
+pub mod Attached
