@@ -1,8 +1,8 @@
 // The code of a program, which grows statement by statement.
-ghost use Rattle.std.specs.Prelude.{◌≡◌, ◌+◌, ◌<◌, ◌^◌, IfOk, OnErr, OnOk, IsTrue, length, replicate};
+ghost use Rattle.std.specs.Prelude.{◌≡◌, ◌+◌, ◌<◌, ◌≤◌, ◌^◌, ◌++◌, IfOk, OnErr, OnOk, IsTrue, length, replicate};
 ghost use Rattle.sil_micro.specs.Codes.{appended, begun, entry_of, no_code, pushed, reserved, return_of, returned};
 ghost use Rattle.sil_micro.specs.Forms.{all_ops, is_op};
-ghost use Rattle.sil_micro.specs.Pieces.{fits_part, is_part, placed_op};
+ghost use Rattle.sil_micro.specs.Pieces.{fits_part, is_part, placed, placed_op};
 
 use crate::op::{Op, Target};
 use sil_base::Record;
@@ -145,12 +145,26 @@ impl Code {
         ensures appends { OnOk result (self.new ≡ appended self.old piece.now) }
         ensures count { OnOk result (length self.new.ops ≡ length self.old.ops + length piece.now) }
     {
-        let base = self.ops.len() as u32;
-        for op in piece {
-            self.ops.push(moved(base, piece.len(), *op))?;
-        }
-        Ok(())
+        push_piece(&mut self.ops, piece)
     }
+}
+
+/// Appends the operations of a piece, which stands behind those that are there.
+#[tactic(auto, using(crate::proofs::Placing::placing), unfolding(crate::specs::Pieces::placed))]
+fn push_piece(ops: &mut Vec<Op>, piece: &[Op]) -> Result<(), AllocError>
+    requires part { IsTrue (is_part piece.now) }
+    requires room { length ops.old.items + length piece.now < 2 ^ 32 }
+    requires rules { IsTrue (all_ops is_op ops.old.items) }
+    ensures appends { OnOk result (ops.new.items ≡ ops.old.items ++ placed (length ops.old.items) piece.now) }
+    ensures count { OnOk result (length ops.new.items ≡ length ops.old.items + length piece.now) }
+    ensures most { length ops.new.items ≤ length ops.old.items + length piece.now }
+    ensures rules { IsTrue (all_ops is_op ops.new.items) }
+{
+    let base = ops.len() as u32;
+    for op in piece {
+        ops.push(moved(base, piece.len(), *op))?;
+    }
+    Ok(())
 }
 
 /// For each of so many statements no place.
