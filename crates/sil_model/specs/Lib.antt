@@ -3,6 +3,7 @@ pub mod Memory
 pub mod Access
 pub mod FieldBits
 pub mod CellWords
+pub mod AccessLaws
 pub mod Arguments
 pub mod Sites
 pub mod States
