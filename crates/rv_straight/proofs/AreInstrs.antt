@@ -1,9 +1,9 @@
 -- The instructions of constants, jumps and calls have words.
-use Rattle.std.proofs.Common.{◌≡◌, ℕ, ◌+◌, ◌%◌, ◌^◌, ◌<◌, ◌∷◌, Bool, true, false, cond, refl, arith, rules}
+use Rattle.std.proofs.Common.{ℕ, ◌+◌, ◌%◌, ◌^◌, ◌<◌, Bool, true, false, cond, arith, rules}
 use Rattle.rv_isa.specs.Words.{IsFrom}
 use Rattle.rv_straight.specs.Code.{AreInstrs}
 use Rattle.rv_straight.specs.Constants.{upper_of, lower_of, is_short, is_word, constant_12, constant_32, constant_64, constant_code}
-use Rattle.rv_straight.specs.Jumps.{distance, far_upper, leap_code, jump_if_code}
+use Rattle.rv_straight.specs.Jumps.{distance, far_upper, leap_code}
 use Rattle.rv_straight.specs.Laws.{LawOfWords}
 
 pub lower_fits : (n : ℕ) → IsFrom 11 (lower_of n)

@@ -8,7 +8,7 @@ use Rattle.rv_isa.specs.declared.instr.Instr.TheVariants.{I, B, Ecall}
 use Rattle.rv_isa.specs.Words.{twos}
 use Rattle.image_file.specs.Image.{Image}
 use Rattle.rv_emulate.specs.Memory.{Memory}
-use Rattle.rv_emulate.specs.States.{State, Outcome, On, Ended, register}
+use Rattle.rv_emulate.specs.States.{State, On, Ended, register}
 use Rattle.rv_emulate.specs.Steps.{act, answer, ended, jump}
 use Rattle.rv_emulate.specs.Calls.{call, end_by, can_read, can_write, is_unit_call}
 use Rattle.rv_emulate.specs.Values.{sum64, taken}

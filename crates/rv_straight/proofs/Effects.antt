@@ -1,5 +1,5 @@
 -- Values have 64 bits, and the table of effects is the emulator's.
-use Rattle.std.proofs.Common.{◌≡◌, ℕ, ◌+◌, ◌-◌, ◌*◌, ◌/◌, ◌%◌, ◌^◌, ◌<◌, ◌≤◌, List, Some, Bool, true, false, cond, refl, ap, subst, ◌∙◌, arith}
+use Rattle.std.proofs.Common.{◌≡◌, ℕ, ◌+◌, ◌-◌, ◌*◌, ◌/◌, ◌%◌, ◌^◌, ◌<◌, List, Bool, true, false, cond, refl, ap, subst, ◌∙◌, arith}
 use Rattle.std.specs.Prelude.{ℤ, ◌==◌}
 use Rattle.std.proofs.lemmas.Nat.{and_le_l, or_lt, xor_lt, shr_le}
 use Rattle.std.proofs.Math.Nat.{div-le_self}
@@ -13,7 +13,7 @@ use Rattle.rv_isa.specs.declared.instr.Instr.TheVariants.{R, I, S, B, U, J, Ecal
 use Rattle.rv_isa.specs.Words.{IsInstr, twos}
 use Rattle.image_file.specs.Image.{Image}
 use Rattle.rv_emulate.specs.Memory.{Memory, stored}
-use Rattle.rv_emulate.specs.States.{State, Outcome, On, register}
+use Rattle.rv_emulate.specs.States.{State, register}
 use Rattle.rv_emulate.specs.Steps.{act, i_step, load_step, store_step, next_with}
 use Rattle.rv_emulate.specs.Values.{s_width, r_value, sum64, extended}
 use Rattle.rv_straight.specs.Registers.{Writes, Knows}

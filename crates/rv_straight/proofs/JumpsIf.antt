@@ -1,5 +1,5 @@
 -- Conditional jumps.
-use Rattle.std.proofs.Common.{◌≡◌, ℕ, ◌+◌, ◌-◌, ◌*◌, ◌%◌, ◌^◌, ◌<◌, ◌≤◌, [], ◌∷◌, Bool, true, false, cond, refl, sym, ap, subst, ◌∙◌, arith}
+use Rattle.std.proofs.Common.{◌≡◌, ℕ, ◌+◌, ◌-◌, ◌*◌, ◌%◌, ◌^◌, ◌<◌, [], ◌∷◌, Bool, true, false, cond, refl, sym, ap, ◌∙◌, arith}
 use Rattle.std.specs.Prelude.{not, nat_lt, ◌==◌}
 use Rattle.rv_isa.specs.declared.instr.BOp.{BOp}
 use Rattle.rv_isa.specs.declared.instr.BOp.TheVariants.{Beq, Bne, Blt, Bge, Bltu, Bgeu}
@@ -7,7 +7,7 @@ use Rattle.image_file.specs.Image.{Image}
 use Rattle.rv_emulate.specs.States.{State, On, register}
 use Rattle.rv_emulate.specs.Values.{taken, is_below}
 use Rattle.rv_straight.specs.Ways.{Comes}
-use Rattle.rv_straight.specs.Registers.{Writes, IsFile}
+use Rattle.rv_straight.specs.Registers.{IsFile}
 use Rattle.rv_straight.specs.Straight.{at}
 use Rattle.rv_straight.specs.Code.{IsNext}
 use Rattle.rv_straight.specs.Jumps.{inverse, jump_if_code}

@@ -1,5 +1,5 @@
 -- Ways from the beginning of a code are lengthened, and end.
-use Rattle.std.proofs.Common.{◌≡◌, ℕ, suc, ◌+◌, ◌-◌, ◌*◌, ◌/◌, ◌%◌, ◌^◌, ◌<◌, ◌≤◌, List, [], ◌∷◌, length, take, drop, length-take, length-drop, Some, Bool, true, false, sym, ap, subst, arith}
+use Rattle.std.proofs.Common.{◌≡◌, ℕ, suc, ◌+◌, ◌-◌, ◌*◌, ◌/◌, ◌%◌, ◌^◌, ◌<◌, ◌≤◌, List, [], ◌∷◌, length, take, drop, length-take, length-drop, Some, true, false, sym, ap, subst, arith}
 use Rattle.std.specs.Prelude.{ℤ, pos, slice_get}
 use Rattle.rv_isa.specs.declared.instr.IOp.TheVariants.{Addi, Jalr}
 use Rattle.rv_isa.specs.declared.instr.BOp.{BOp}

@@ -1,5 +1,5 @@
 -- The instructions that make a number in a register.
-use Rattle.std.specs.Prelude.{ℕ, ◌+◌, ◌-◌, ◌/◌, ◌%◌, ◌^◌, ℤ, pos, List, [], ◌∷◌, Bool, nat_lt, if◌then◌else◌}
+use Rattle.std.specs.Prelude.{ℕ, ◌+◌, ◌/◌, ◌%◌, ◌^◌, ℤ, pos, List, [], ◌∷◌, Bool, nat_lt, if◌then◌else◌}
 use Rattle.rv_isa.specs.declared.instr.IOp.TheVariants.{Addi, Addiw, Slli}
 use Rattle.rv_isa.specs.declared.instr.UOp.TheVariants.{Lui}
 use Rattle.rv_isa.specs.declared.instr.Instr.{Instr}

@@ -1,5 +1,5 @@
 -- The laws of straight code, constants and jumps.
-use Rattle.std.specs.Prelude.{◌≡◌, ℕ, ◌+◌, ◌-◌, ◌*◌, ◌%◌, ◌^◌, ◌<◌, ◌≤◌, List, [], ◌∷◌, length, take, drop, Bool, true, false, if◌then◌else◌, cond}
+use Rattle.std.specs.Prelude.{◌≡◌, ℕ, ◌+◌, ◌-◌, ◌*◌, ◌%◌, ◌^◌, ◌<◌, List, [], ◌∷◌, length, take, drop, false, if◌then◌else◌}
 use Rattle.rv_isa.specs.declared.instr.BOp.{BOp}
 use Rattle.rv_isa.specs.declared.instr.Instr.{Instr}
 use Rattle.image_file.specs.Image.{Image}
@@ -8,7 +8,7 @@ use Rattle.rv_emulate.specs.States.{State, Outcome, On, register}
 use Rattle.rv_emulate.specs.Steps.{act, next_with}
 use Rattle.rv_emulate.specs.Values.{taken}
 use Rattle.rv_straight.specs.Ways.{Comes}
-use Rattle.rv_straight.specs.Registers.{Writes, read, Knows, IsFile}
+use Rattle.rv_straight.specs.Registers.{Writes, IsFile}
 use Rattle.rv_straight.specs.Effects.{effect, Given, Value, Leaves, Gives, target}
 use Rattle.rv_straight.specs.Straight.{Follow, writes_after, memory_after, at}
 use Rattle.rv_straight.specs.Code.{AreInstrs, IsNext}

@@ -3,8 +3,8 @@ ghost use Rattle.std.specs.Prelude.{◌≡◌, ◌++◌, ◌<◌, map, OnOk, IsT
 ghost use Rattle.rv_isa.specs.Words.{word_of};
 ghost use Rattle.rv_straight.specs.Constants.{constant, constant_12, constant_32, constant_64, is_short, is_word, lower_of, upper_of};
 
-use crate::words::append;
 use crate::instrs::{immediate, upper_part};
+use crate::words::append;
 use rv_isa::{IOp, Instr, UOp};
 use std::alloc::AllocError;
 
