@@ -3,9 +3,12 @@ ghost use Rattle.std.specs.Prelude.{◌≡◌};
 ghost use Rattle.sil_model.specs.DescriptorClauses.{adjust, decra, getac, getd, getdc, getsiz, incra, incrv, mova, movd, movdic, movv, putac, putd, putdc, putvc, resetf, rsetfi, setac, setav, setf, setfi, setsiz, setva, setvc};
 ghost use Rattle.sil_clauses.specs.Flows.{after_flow};
 
-use crate::results::{set_integer};
+use crate::results::set_integer;
 use crate::words::{bits_without, integer, wrapped_difference, wrapped_sum};
-use sil_model::{Arg, Cells, Flow, a_field, f_field, flag, number, place, set_a_field, set_f_field, set_v_field, v_field};
+use sil_model::{
+    Arg, Cells, Flow, a_field, f_field, flag, number, place, set_a_field, set_f_field, set_v_field,
+    v_field,
+};
 
 /// `ADJUST D1,D2,D3`: D1.A := [D2.A].A + D3.A.
 #[tactic(auto, unfolding(sil_model::specs::DescriptorClauses::adjust))]

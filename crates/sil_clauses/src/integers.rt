@@ -4,7 +4,9 @@ ghost use Rattle.sil_model.specs.IntegerClauses.{divide, mnsint, mult, multc, su
 ghost use Rattle.sil_clauses.specs.Flows.{after_flow};
 
 use crate::results::{deliver, set_integer};
-use crate::words::{exact_difference, exact_negative, exact_product, exact_quotient, exact_sum, wrapped_product};
+use crate::words::{
+    exact_difference, exact_negative, exact_product, exact_quotient, exact_sum, wrapped_product,
+};
 use sil_model::{Arg, Cells, Flow, a_field, goto, number, place};
 
 /// `DIVIDE D1,D2,D3,LF,LS`: D2.A by D3.A, cut towards zero.

@@ -33,7 +33,14 @@ pub(crate) fn deliver(
     match integer {
         None => Some(failure),
         Some(a) => {
-            cells.set_descr(at, Descr { a, f: like.f, v: like.v })?;
+            cells.set_descr(
+                at,
+                Descr {
+                    a,
+                    f: like.f,
+                    v: like.v,
+                },
+            )?;
             Some(success)
         }
     }

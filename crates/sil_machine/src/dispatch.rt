@@ -10,7 +10,10 @@ use crate::parts::{Parts, Stop};
 use crate::site::Site;
 use sil_base::MAX_STEPS;
 use sil_clauses::{
-    acomp, acompc, adjust, aeql, aeqlc, aeqlic, chkval, decra, deql, divide, endex, getac, getd, getdc, getsiz, incra, incrv, lcomp, leqlc, mnsint, mova, movd, movdic, movv, mult, multc, putac, putd, putdc, putvc, resetf, rsetfi, setac, setav, setf, setfi, setsiz, setva, setvc, subtrt, sum, testf, testfi, vcmpic, veql, veqlc,
+    acomp, acompc, adjust, aeql, aeqlc, aeqlic, chkval, decra, deql, divide, endex, getac, getd,
+    getdc, getsiz, incra, incrv, lcomp, leqlc, mnsint, mova, movd, movdic, movv, mult, multc,
+    putac, putd, putdc, putvc, resetf, rsetfi, setac, setav, setf, setfi, setsiz, setva, setvc,
+    subtrt, sum, testf, testfi, vcmpic, veql, veqlc,
 };
 use sil_macros::Macro;
 use sil_model::Flow;

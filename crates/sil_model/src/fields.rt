@@ -72,5 +72,9 @@ fn flags_within(limit: u64, flags: u32) -> Option<u32>
     ensures value { result ≡ within limit (pos flags) }
     ensures small { IfSome result (λ f. f ≤ limit) }
 {
-    if u64::from(flags) <= limit { Some(flags) } else { None }
+    if u64::from(flags) <= limit {
+        Some(flags)
+    } else {
+        None
+    }
 }
