@@ -29,6 +29,7 @@ use Rattle.sil_model.specs.declared.program.Specials.{Specials}
 use Rattle.sil_model.specs.Built.{AreBuilt, AreStatic, IsBuilt, IsStatic, is_built}
 use Rattle.sil_model.specs.Fits.{Bounds, FitsRow, IsStatement, bounds_of}
 use Rattle.sil_model.specs.Needs.{has_needed}
+use Rattle.sil_format.specs.Grammar.{IsFormat}
 use Rattle.sil_model.specs.WellFormed.{AreSpecials, IsWellFormed, IsTable}
 use Rattle.sil_check.specs.Arguments.{is_descriptor, is_descriptor_at, is_static, and_before, args_of}
 use Rattle.sil_check.specs.Specials.{number_within, specials_of, statement_at}
@@ -261,7 +262,8 @@ checked p source program h =
         cell_count = all;
         table_count = omega (arith, ap length tables);
         tables = let P : List Table → Type 0 = λ ts. All (IsTable (length ts)) ts in subst P (sym tables) (All-nil (IsTable 0));
-        formats = subst (All (λ text. length text ≤ 256)) (sym formats) (All-nil (λ text. length text ≤ 256));
+        formats = subst (All IsFormat) (sym formats) (All-nil IsFormat);
+        format_lengths = subst (All (λ text. length text ≤ 256)) (sym formats) (All-nil (λ text. length text ≤ 256));
         format_bytes = omega (arith, ap (sum_by length) formats);
         specials = specials_fit p source program.cells made program is h.specials fit;
       };
