@@ -5,3 +5,5 @@ pub mod Ways
 pub mod Meetings
 pub mod Parts
 pub mod Placing
+pub mod Making
+pub mod Fields

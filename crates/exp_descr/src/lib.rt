@@ -1,0 +1,4 @@
+// The expansions of the macros of descriptors into micro operations.
+#![tactic(auto)]
+
+mod moves;
