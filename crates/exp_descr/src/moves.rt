@@ -20,7 +20,7 @@ pub fn movd(
     d2: i64,
 ) -> Result<(), AllocError>
     requires statement { k < length code.old.entries }
-    requires room { length code.old.ops + 100 < 2 ^ 32 }
+    requires room { length code.old.ops + 1500 < 2 ^ 32 }
     ensures { OnOk result (Expands code.old code.new k specials.now (Place d1 ∷ Place d2 ∷ []) (on_memory movd) (visits Movd)) }
 {
     code.begin_statement(k);
@@ -39,7 +39,7 @@ pub fn movd(
 /// `INCRA D,N`: D.A := D.A + N.
 pub fn incra(code: &mut Code, k: u32, specials: &Specials, d: i64, n: i64) -> Result<(), AllocError>
     requires statement { k < length code.old.entries }
-    requires room { length code.old.ops + 100 < 2 ^ 32 }
+    requires room { length code.old.ops + 1500 < 2 ^ 32 }
     ensures { OnOk result (Expands code.old code.new k specials.now (Place d ∷ Number n ∷ []) (on_memory incra) (visits Incra)) }
 {
     code.begin_statement(k);

@@ -1,13 +1,7 @@
-// A library with one function.
+// The expansions of the macros of flow into micro operations.
 #![tactic(auto)]
 
-ghost use Rattle.std.specs.Prelude.{◌≡◌};
-ghost use Rattle.exp_flow.specs.Echo.{echo_of};
+mod ends;
+mod expansion;
 
-// The `ensures` clause is the contract: what `echo` returns is `echo_of` of its argument, a definition
-// in `specs/Echo.antt`, which a caller's clause can cite too.
-pub fn echo(x: usize) -> usize
-    ensures { result ≡ echo_of x }
-{
-    x
-}
+pub use expansion::expand_flow;

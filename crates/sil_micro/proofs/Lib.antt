@@ -7,3 +7,4 @@ pub mod Parts
 pub mod Placing
 pub mod Making
 pub mod Fields
+pub mod Weights

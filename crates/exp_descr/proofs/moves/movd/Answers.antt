@@ -20,11 +20,11 @@ returns c =
       stands = stands;
       is_piece = record { part = refl; begins = refl; once = refl; names = refl; light = lit≤ tt };
       does = λ g program parameters u h.
-      let m = u.state.memory in
-      by_option (descr_at m c.args.d2) (λ none. record { fuel = 8; meets = simp (h.left, none) (refl, refl, lit≤ tt) }) (λ d is.
-      let f = f_again m c.args.d2 d h.valid.memory is in
-      let v = v_again m c.args.d2 d h.valid.memory is in
-      by_option (put_cell m c.args.d1 (Descr d))
-      (λ none. let same : put_cell m c.args.d1 (Descr (record { a = d.a; f = d.f; v = d.v })) ≡ None = none in record { fuel = 8; meets = simp (h.left, is, f, v, none, same) (refl, refl, lit≤ tt) })
-      (λ cells put. let same : put_cell m c.args.d1 (Descr (record { a = d.a; f = d.f; v = d.v })) ≡ Some cells = put in record { fuel = 8; meets = simp (h.left, is, f, v, put, same) (refl, lit≤ tt) }));
+          let m = u.state.memory in
+          by_option (descr_at m c.args.d2) (λ none. record { fuel = 8; meets = simp (h.left, none) (refl, refl, lit≤ tt) }) (λ d is.
+          let f = f_again m c.args.d2 d h.valid.memory is in
+          let v = v_again m c.args.d2 d h.valid.memory is in
+          by_option (put_cell m c.args.d1 (Descr d))
+          (λ none. let same : put_cell m c.args.d1 (Descr (record { a = d.a; f = d.f; v = d.v })) ≡ None = none in record { fuel = 8; meets = simp (h.left, is, f, v, none, same) (refl, refl, lit≤ tt) })
+          (λ cells put. let same : put_cell m c.args.d1 (Descr (record { a = d.a; f = d.f; v = d.v })) ≡ Some cells = put in record { fuel = 8; meets = simp (h.left, is, f, v, put, same) (refl, lit≤ tt) }));
     }
