@@ -1,5 +1,5 @@
 -- Whether a number is 0.
-use Rattle.std.proofs.Common.{◌≡◌, ℕ, zero, suc, false, refl, arith}
+use Rattle.std.proofs.Common.{◌≡◌, zero, suc, false, refl, arith}
 use Rattle.std.proofs.lemmas.Bool.Decides.{nat_tests}
 use Rattle.std.specs.Prelude.{ℤ, pos, negsuc, nat_eq}
 use Rattle.sil_model.specs.Clauses.{exit_code}

@@ -1,6 +1,5 @@
 -- How many operations a weight allows.
 use Rattle.std.proofs.Common.{ℕ, ◌+◌, ◌*◌, ◌<◌, ◌≤◌, ◌^◌, List, [], ◌∷◌, length, arith}
-use Rattle.std.proofs.Math.Nat.{mul-le-mul_left}
 use Rattle.sil_micro.specs.declared.op.Op.{Op}
 use Rattle.sil_micro.specs.declared.op.Op.TheVariants.{Const, Copy, Arith, Jump, JumpIf}
 use Rattle.sil_micro.specs.Operations.{weight}

@@ -1,4 +1,4 @@
-use Rattle.std.proofs.Common.{◌≡◌, Some, None, refl, lit≤}
+use Rattle.std.proofs.Common.{refl, lit≤}
 use Rattle.std.proofs.lemmas.Int.{to_z-of_z}
 use Rattle.sil_model.specs.Access.{descr_at}
 use Rattle.sil_model.specs.Clauses.{endex}
