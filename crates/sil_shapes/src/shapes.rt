@@ -2,7 +2,7 @@
 ghost use Rattle.std.specs.Prelude.{◌≡◌, is_some};
 ghost use Rattle.std.specs.List.{list_all};
 ghost use Rattle.sil_operands.specs.Simple.{named_alone};
-ghost use Rattle.sil_check.specs.Shapes.{is_key, names_key, fits_expression, fits_list, takes_text, fits_place, fits_places, fits};
+ghost use Rattle.sil_shapes.specs.Shapes.{is_key, names_key, fits_expression, fits_list, takes_text, fits_place, fits_places, fits};
 
 use sil_macros::{Kind, Macro, Place, shape};
 use sil_operands::{Expr, Operand, Operands, Term, are_null, named_alone};
