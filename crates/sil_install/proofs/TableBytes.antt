@@ -1,17 +1,17 @@
 -- The bytes of well formed tables are within the rules of an image.
-use Rattle.std.proofs.Common.{◌≡◌, ℕ, zero, suc, ◌+◌, ◌*◌, ◌/◌, ◌%◌, ◌<◌, ◌≤◌, Bool, true, false, cond, ◌&&◌, ◌==◌, List, [], ◌∷◌, ◌++◌, length, take, drop, Option, Some, None, refl, sym, ap, ◌∙◌, subst, arith, append_assoc, append-nil, length-append, get_or, ℤ}
-use Rattle.std.specs.Prelude.{All, slice_index, nat_le, nat_lt}
+use Rattle.std.proofs.Common.{◌≡◌, ℕ, ◌*◌, ◌/◌, ◌%◌, ◌<◌, ◌≤◌, Bool, true, ◌&&◌, List, [], ◌∷◌, ◌++◌, length, Option, Some, None, refl, sym, ap, ◌∙◌, arith, append_assoc, length-append, ℤ}
+use Rattle.std.specs.Prelude.{All}
 use Rattle.std.specs.List.{flat_map}
 use Rattle.std.proofs.lemmas.Bool.Decides.{nat_tests}
 use Rattle.std.proofs.lemmas.List.Elements.{All-head, All-tail, All-append, All-nil}
-use Rattle.sil_base.specs.Bytes.{number, low_bytes, piece}
+use Rattle.sil_base.specs.Bytes.{number, low_bytes}
 use Rattle.sil_model.specs.declared.table.Action.{Action}
 use Rattle.sil_model.specs.declared.table.Action.TheVariants.{Contin, Goto, Stop, Stopsh, Error}
 use Rattle.sil_model.specs.declared.table.Entry.{Entry}
 use Rattle.sil_model.specs.declared.table.Table.{Table}
 use Rattle.sil_model.specs.WellFormed.{GoesWithin, IsEntry, IsTable}
 use Rattle.image_file.specs.Image.{entry_fits, entries_fit}
-use Rattle.rv_emit.specs.Parts.{action_number, next_table, put_flag, put_value, table_entry_part, table_part}
+use Rattle.rv_emit.specs.Parts.{table_entry_part, table_part}
 use Rattle.sil_install.specs.TableBytes.{entry_bytes, bytes_of}
 use Rattle.rv_emit.proofs.FirstMemory.{length-tables, long_tables}
 
