@@ -1,6 +1,6 @@
 // Descriptors that are moved, and sums.
 ghost use Rattle.std.specs.Prelude.{◌+◌, ◌<◌, ◌^◌, ◌∷◌, [], OnOk, length};
-ghost use Rattle.sil_model.specs.Clauses.{incra, movd};
+ghost use Rattle.sil_model.specs.DescriptorClauses.{incra, movd};
 ghost use Rattle.sil_model.specs.Costs.{visits};
 ghost use Rattle.sil_model.specs.Effects.{on_memory};
 ghost use Rattle.sil_model.specs.declared.program.Arg.TheVariants.{Number, Place};

@@ -1,7 +1,7 @@
 // Ends of runs.
 ghost use Rattle.std.specs.Prelude.{◌+◌, ◌<◌, ◌^◌, ◌∷◌, [], OnOk, length};
 ghost use Rattle.sil_macros.specs.declared.names.Macro.TheVariants.{Endex};
-ghost use Rattle.sil_model.specs.Clauses.{endex};
+ghost use Rattle.sil_model.specs.FlowClauses.{endex};
 ghost use Rattle.sil_model.specs.Costs.{visits};
 ghost use Rattle.sil_model.specs.Effects.{on_memory};
 ghost use Rattle.sil_model.specs.declared.program.Arg.TheVariants.{Place};

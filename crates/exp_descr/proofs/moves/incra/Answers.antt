@@ -1,6 +1,6 @@
 use Rattle.std.proofs.Common.{arith, refl, lit≤}
 use Rattle.std.proofs.lemmas.Int.{to_z-of_z}
-use Rattle.sil_model.specs.Clauses.{incra}
+use Rattle.sil_model.specs.DescriptorClauses.{incra}
 use Rattle.exp_descr.proofs.moves.incra.Goals as goal
 use mir.Val.{SFits}
 use mir.Syntax.{w64}

@@ -2,7 +2,7 @@ use Rattle.std.proofs.Common.{◌≡◌, Some, None, refl, lit≤}
 use Rattle.std.proofs.lemmas.Int.{to_z-of_z}
 use Rattle.layout_params.specs.declared.cell.Cell.TheVariants.{Descr}
 use Rattle.sil_model.specs.Access.{descr_at, put_cell}
-use Rattle.sil_model.specs.Clauses.{movd}
+use Rattle.sil_model.specs.DescriptorClauses.{movd}
 use Rattle.sil_micro.proofs.Fields.{f_again, v_again}
 use Rattle.sil_micro.proofs.Making.{by_option}
 use Rattle.exp_descr.proofs.moves.movd.Goals as goal
