@@ -1,0 +1,9 @@
+pub mod Cells
+pub mod Regions
+pub mod Pieces
+pub mod Differing
+pub mod FieldPlaces
+pub mod Returning
+pub mod Checking
+pub mod Fitting
+pub mod Opening
