@@ -1,5 +1,10 @@
 pub mod Fits
 pub mod Keeps
+pub mod Places
+pub mod Reading
+pub mod Characters
+pub mod ReadingChars
+pub mod AccessProofs
 pub mod Leaves
 pub mod ClauseLaws
 pub mod Runs

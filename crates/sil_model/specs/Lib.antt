@@ -1,6 +1,9 @@
 pub mod Integers
 pub mod Memory
 pub mod Access
+pub mod FieldBits
+pub mod CellWords
+pub mod AccessLaws
 pub mod Arguments
 pub mod Sites
 pub mod States

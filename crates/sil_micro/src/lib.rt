@@ -1,0 +1,11 @@
+// Micro operations, what they do to the state of the abstract machine, and the code that a program
+// is expanded into.
+#![tactic(auto)]
+
+mod code;
+mod laws;
+mod op;
+
+pub use code::Code;
+pub use laws::{law_of_parts, law_of_registers, law_on_ways};
+pub use op::{Area, Arith, Fixed, Op, Target, Test, Text, Values};
