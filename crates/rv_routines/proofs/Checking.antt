@@ -9,6 +9,7 @@ use Rattle.layout_params.specs.declared.cell.Cell.{Cell}
 use Rattle.layout_params.specs.declared.cell.Cell.TheVariants.{Descr, Chars}
 use Rattle.layout_params.specs.Sizes.{Sizes}
 use Rattle.sil_model.specs.Memory as abstract
+use Rattle.sil_model.specs.CellWords.{kind_of}
 use Rattle.sil_model.specs.Access.{descr_of}
 use Rattle.image_file.specs.Image.{Image}
 use Rattle.rv_emulate.specs.declared.end.CpuEnd.TheVariants.{Undefined}
@@ -28,7 +29,7 @@ use Rattle.rv_straight.proofs.Registers.{read_kept}
 use Rattle.rv_straight.proofs.Reaching.{start, straight, passes, branches, jumps, undefined}
 use Rattle.rv_straight.proofs.Numbers.{constant_is}
 use Rattle.rv_straight.proofs.Leaps.{code_at}
-use Rattle.rv_routines.specs.Holds.{HoldsMemory, kind_of}
+use Rattle.rv_routines.specs.Holds.{HoldsMemory}
 use Rattle.rv_routines.specs.Routines.{Tested, kept, is_scratch}
 use Rattle.rv_routines.specs.Codes.{check_code}
 use Rattle.rv_routines.specs.Tests.{check_test}

@@ -13,9 +13,10 @@ use Rattle.layout_params.specs.Packing.{IsPacked}
 use Rattle.layout_params.specs.Sizes.{Sizes}
 use Rattle.sil_model.specs.Memory as abstract
 use Rattle.sil_model.specs.Memory.{FitsCell}
+use Rattle.sil_model.specs.CellWords.{kind_of}
 use Rattle.sil_model.specs.Access.{with_cell}
 use Rattle.rv_emulate.specs.Memory.{Memory}
-use Rattle.rv_routines.specs.Holds.{HoldsBytes, HoldsMemory, DifferInCell, kind_of}
+use Rattle.rv_routines.specs.Holds.{HoldsBytes, HoldsMemory, DifferInCell}
 use Rattle.rv_routines.proofs.Pieces.{piece_written, set_here, set_there, kind_written, kind_there}
 
 -- a multiple of d is apart from the bytes of the i-th cell

@@ -7,3 +7,7 @@ pub mod Returning
 pub mod Checking
 pub mod Fitting
 pub mod Opening
+pub mod FieldLoads
+pub mod FieldStores
+pub mod CellStores
+pub mod Calling

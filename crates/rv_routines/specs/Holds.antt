@@ -3,17 +3,12 @@ use Rattle.std.specs.Prelude.{◌≡◌, ◌≢◌, ℕ, ◌+◌, ◌*◌, ◌^�
 use Rattle.sil_base.specs.Bytes.{piece, AreBytes}
 use Rattle.sil_base.specs.declared.limits.TheConstants.{SCRATCH_BYTES}
 use Rattle.layout_params.specs.declared.cell.Cell.{Cell}
-use Rattle.layout_params.specs.declared.cell.Cell.TheVariants.{Descr, Chars}
 use Rattle.layout_params.specs.Sizes.{Sizes, flag_limit, value_limit}
 use Rattle.layout_params.specs.Packing.{IsPacked}
 use Rattle.sil_model.specs.Memory as abstract
 use Rattle.sil_model.specs.Memory.{IsMemory}
+use Rattle.sil_model.specs.CellWords.{kind_of}
 use Rattle.rv_emulate.specs.Memory.{Memory}
-
--- the byte that tells what a cell is
-abbrev pub kind_of : Cell → ℕ
-kind_of (Descr d) = 0
-kind_of (Chars chars) = 1
 
 -- all regions hold bytes
 pub record HoldsBytes (m : Memory) : Type 0 where
