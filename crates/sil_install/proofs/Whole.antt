@@ -17,7 +17,8 @@ use Rattle.layout_params.specs.Areas.{all_cells}
 use Rattle.sil_model.specs.Start.{limits_of}
 use Rattle.sil_model.specs.Valid.{LawOfSteps}
 use Rattle.image_file.specs.Image.{Image, IsImage, image_of, entry_of, entries_fit}
-use Rattle.rv_emit.specs.Parts.{IsImageOf, kind_of, table_part}
+use Rattle.sil_model.specs.CellWords.{kind_of}
+use Rattle.rv_emit.specs.Parts.{IsImageOf, table_part}
 use Rattle.rv_emit.specs.Code.{last_place}
 use Rattle.rv_emit.specs.Emits.{CanEmit, Carries, FitsImage}
 use Rattle.rv_emit.proofs.FirstMemory.{length-packed, fits_all_static}

@@ -3,7 +3,7 @@ ghost use Rattle.std.specs.Prelude.{◌≡◌};
 ghost use Rattle.sil_model.specs.Clauses.{endex, incra, movd};
 ghost use Rattle.sil_machine.specs.Parts.{after_flow};
 
-use sil_model::{Arg, Cells, Flow, number, place};
+use sil_model::{Arg, Cells, Flow, a_field, number, place, set_a_field};
 
 /// `ENDEX D` ends as exit 0 where D.A is 0, else as exit 1.
 #[tactic(auto, unfolding(sil_model::specs::Clauses::endex))]
@@ -11,19 +11,19 @@ pub fn endex(args: &[Arg], cells: &mut Cells) -> Option<Flow>
     ensures { endex args.now cells.old ≡ after_flow result cells.new }
 {
     let d = place(args, 0)?;
-    let a = cells.a(d)?;
+    let a = a_field(cells, d)?;
     Some(Flow::Exit(if a == 0 { 0 } else { 1 }))
 }
 
 /// `INCRA D,N` adds N to D.A.
-#[tactic(auto, unfolding(sil_model::specs::Clauses::incra))]
+#[tactic(auto, unfolding(sil_model::specs::Clauses::incra, sil_model::specs::Integers::wrapped_sum))]
 pub fn incra(args: &[Arg], cells: &mut Cells) -> Option<Flow>
     ensures { incra args.now cells.old ≡ after_flow result cells.new }
 {
     let d = place(args, 0)?;
     let n = number(args, 1)?;
-    let a = cells.a(d)?;
-    cells.set_a(d, a.wrapping_add(n))?;
+    let a = a_field(cells, d)?;
+    set_a_field(cells, d, a.wrapping_add(n))?;
     Some(Flow::Next)
 }
 

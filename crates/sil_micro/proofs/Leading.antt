@@ -1,10 +1,9 @@
 -- Operations one after another.
-use Rattle.std.proofs.Common.{◌≡◌, ℕ, zero, suc, ◌+◌, List, [], ◌++◌, refl, sym, ap, ◌∙◌, arith, append_assoc, append-nil}
+use Rattle.std.proofs.Common.{◌≡◌, ℕ, suc, ◌+◌, List, [], ◌++◌, sym, ap, ◌∙◌, arith, append_assoc, append-nil}
 use Rattle.std.specs.Prelude.{slice_get}
-use Rattle.sil_micro.specs.Codes.{MicroCode, place_of}
+use Rattle.sil_micro.specs.Codes.{MicroCode}
 use Rattle.sil_micro.specs.Laws.{Leads, Follows}
-use Rattle.sil_micro.specs.Runs.{Outcome, At, Ended, IsStuck, and_on, met_after, met_by, run, met, step}
-use Rattle.sil_micro.specs.Runs as runs
+use Rattle.sil_micro.specs.Runs.{Outcome, At, and_on, met_after, met_by, run, met, step}
 use Rattle.sil_micro.specs.States.{Setting, Micro}
 use Rattle.sil_micro.specs.Ways.{Way, Came, Returned}
 use Rattle.sil_micro.specs.Ways as ways

@@ -1,11 +1,11 @@
 -- A piece that stands in a code does there what it does by itself.
-use Rattle.std.proofs.Common.{◌≡◌, ℕ, zero, suc, ◌+◌, ◌<◌, ◌≤◌, List, [], ◌∷◌, ◌++◌, length, Option, Some, None, Bool, true, false, refl, sym, ap, ◌∙◌, subst, arith}
+use Rattle.std.proofs.Common.{◌≡◌, ℕ, zero, suc, ◌+◌, ◌<◌, ◌≤◌, List, [], ◌∷◌, ◌++◌, length, Option, Some, None, refl, sym, ap, ◌∙◌, subst, arith}
 use Rattle.std.specs.Prelude.{slice_get}
 use Rattle.std.proofs.lemmas.Option.{slice_get_within}
 use Rattle.sil_micro.specs.declared.op.Op.{Op}
 use Rattle.sil_micro.specs.declared.op.Op.TheVariants.{Jump, JumpIf}
 use Rattle.sil_micro.specs.declared.op.Target.TheVariants.{Op as Place, Statement}
-use Rattle.sil_micro.specs.Codes.{MicroCode, place_of}
+use Rattle.sil_micro.specs.Codes.{MicroCode}
 use Rattle.sil_micro.specs.Laws.{StandsAt, Leads, Follows, met_within, way_met}
 use Rattle.sil_micro.specs.Operations.{Effect, On, To, ToReturn, Over, Stuck, perform}
 use Rattle.sil_micro.specs.Pieces.{placed_op}

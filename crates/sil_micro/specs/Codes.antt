@@ -1,7 +1,8 @@
 -- Codes: operations, with the places where the statements begin.
 use Rattle.std.specs.Prelude.{◌≡◌, ℕ, ◌≤◌, ◌<◌, ◌^◌, ◌==◌, Bool, true, nat_le, List, [], ◌∷◌, ◌++◌, length, Option, Some, None, if◌then◌else◌, replicate, slice_get, slice_set, IsTrue}
-use Rattle.std.specs.Option.{option_map}
+use Rattle.sil_base.specs.declared.limits.TheConstants.{MAX_STATEMENTS}
 use Rattle.layout_params.specs.Parameters.{Settings}
+use Rattle.sil_micro.specs.declared.code.TheConstants.{MAX_CODE_WEIGHT}
 use Rattle.sil_micro.specs.declared.op.Op.{Op}
 use Rattle.sil_micro.specs.declared.op.Op.TheVariants.{Begin, Jump, JumpIf}
 use Rattle.sil_micro.specs.declared.op.Target.{Target}
@@ -77,14 +78,14 @@ op_leads count op = true
 
 -- each of at most 16,384 statements has an entry, in rising order, and its Begin stands there and nowhere else; jumps stay within the code, what is named is there, and the operations sum to at most 197,000,000
 pub record IsWhole (c : MicroCode) : Type 0 where
-  pub few : length c.entries ≤ 2 ^ 14
+  pub few : length c.entries ≤ MAX_STATEMENTS
   pub entries : (k : ℕ) → k < length c.entries → (place : ℕ) × (entry_of c k ≡ Some place) × (slice_get c.ops place ≡ Some (Begin k))
   pub rise : (j k place next : ℕ) → j < k → entry_of c j ≡ Some place → entry_of c k ≡ Some next → place < next
   pub begins : (place k : ℕ) → slice_get c.ops place ≡ Some (Begin k) → entry_of c k ≡ Some place
   pub returns : (k place : ℕ) → return_of c k ≡ Some place → place ≤ length c.ops
   pub jumps : IsTrue (all_ops (op_leads (length c.ops)) c.ops)
   pub names : IsTrue (all_ops (names_within (length c.entries) (length c.formats)) c.ops)
-  pub light : weights c.ops ≤ 197000000
+  pub light : weights c.ops ≤ MAX_CODE_WEIGHT
 
 -- what a run of the code with these parameters and so many steps rests on
 abbrev pub setting_of : MicroCode → Settings → ℕ → Setting

@@ -1,5 +1,6 @@
 -- What the expansion of a statement is to do.
-use Rattle.std.specs.Prelude.{◌≡◌, ℕ, ◌+◌, ◌*◌, ◌≤◌, List, length, nat_lt, IsTrue, Option, Some, None, slice_get, ℤ}
+use Rattle.std.specs.Prelude.{◌≡◌, ℕ, ◌+◌, ◌*◌, ◌≤◌, List, length, nat_lt, IsTrue, Some, slice_get}
+use Rattle.sil_base.specs.declared.limits.TheConstants.{STATEMENT_INSTRUCTIONS, VISIT_INSTRUCTIONS}
 use Rattle.layout_params.specs.Parameters.{Parameters}
 use Rattle.sil_model.specs.declared.program.Arg.{Arg}
 use Rattle.sil_model.specs.declared.program.Program.{Program}
@@ -11,6 +12,7 @@ use Rattle.sil_model.specs.Sites.{Site}
 use Rattle.sil_model.specs.States.{State, Step, Goes, Ends}
 use Rattle.sil_model.specs.Valid.{IsValid}
 use Rattle.sil_model.specs.WellFormed.{IsWellFormed}
+use Rattle.sil_micro.specs.declared.code.TheConstants.{MAX_PIECE_WEIGHT}
 use Rattle.sil_micro.specs.declared.op.Op.{Op}
 use Rattle.sil_micro.specs.declared.op.Op.TheVariants.{Begin}
 use Rattle.sil_micro.specs.Codes.{MicroCode, appended, begun}
@@ -29,7 +31,7 @@ site_at program parameters k args = record { program = program; parameters = par
 
 -- the instructions that a statement may take
 abbrev pub cost_at : List Arg → (Site → State → ℕ) → Site → State → ℕ
-cost_at args visits site s = 2000 + 400 * (operand_count args + visits site s)
+cost_at args visits site s = STATEMENT_INSTRUCTIONS + VISIT_INSTRUCTIONS * (operand_count args + visits site s)
 
 -- a way comes to the step's state, or ends as the step ends, within a weight
 abbrev pub Meets : Way → Step → ℕ → Type 0
@@ -69,7 +71,7 @@ pub record IsPiece (k statements formats : ℕ) (piece : List Op) : Type 0 where
   pub begins : slice_get piece 0 ≡ Some (Begin k)
   pub once : IsTrue (begins_once piece)
   pub names : IsTrue (all_ops (names_within statements formats) piece)
-  pub light : weights piece ≤ 12000
+  pub light : weights piece ≤ MAX_PIECE_WEIGHT
 
 -- the code has the entry of statement k and a piece more, and the piece makes the statement's step
 pub record Expands (old new : MicroCode) (k : ℕ) (specials : Specials) (args : List Arg) (clause : Site → State → Effect) (visits : Site → State → ℕ) : Type 0 where

@@ -1,5 +1,6 @@
 -- The rules that each operation of a code keeps.
 use Rattle.std.specs.Prelude.{ℕ, zero, suc, Bool, true, false, ◌&&◌, nat_lt, nat_le, List, [], ◌∷◌}
+use Rattle.sil_base.specs.declared.limits.TheConstants.{MAX_LIST_ITEMS}
 use Rattle.sil_micro.specs.declared.op.Text.{Text}
 use Rattle.sil_micro.specs.declared.op.Text.TheVariants as text
 use Rattle.sil_micro.specs.declared.op.Values.{Values}
@@ -24,13 +25,9 @@ abbrev pub has_no_text : Text → Bool
 has_no_text text.None = true
 has_no_text _ = false
 
--- the most words that a call takes
-abbrev pub max_words : ℕ
-max_words = 40
-
 abbrev pub are_values : Values → Bool
 are_values values.None = true
-are_values (values.Words count) = nat_le count max_words
+are_values (values.Words count) = nat_le count MAX_LIST_ITEMS
 are_values (values.Chars at len) = is_register at && is_register len
 
 abbrev pub has_no_values : Values → Bool

@@ -1,8 +1,8 @@
 -- Laws of micro code.
-use Rattle.std.specs.Prelude.{◌≡◌, ℕ, zero, suc, ◌+◌, ◌<◌, ◌≤◌, ◌==◌, if◌then◌else◌, List, [], ◌∷◌, ◌++◌, length, nat_lt, Option, Some, slice_get, IsTrue, ℤ}
+use Rattle.std.specs.Prelude.{◌≡◌, ℕ, zero, suc, ◌+◌, ◌<◌, ◌≤◌, ◌==◌, if◌then◌else◌, List, [], ◌∷◌, ◌++◌, length, nat_lt, Some, slice_get, IsTrue, ℤ}
 use Rattle.sil_micro.specs.declared.op.Op.{Op}
 use Rattle.sil_micro.specs.declared.op.Op.TheVariants.{Begin}
-use Rattle.sil_micro.specs.declared.op.Target.TheVariants.{Op as Place, Statement}
+use Rattle.sil_micro.specs.declared.op.Target.TheVariants.{Op as Place}
 use Rattle.sil_micro.specs.Codes.{MicroCode, place_of}
 use Rattle.sil_micro.specs.Operations.{Effect, On, To}
 use Rattle.sil_micro.specs.Pieces.{placed_op, joined, is_part, begins_once}

@@ -8,7 +8,7 @@ use Rattle.layout_params.specs.Areas.{hidden_cells}
 use Rattle.sil_model.specs.declared.end.End.{End}
 use Rattle.sil_model.specs.declared.end.End.TheVariants as ends
 use Rattle.sil_model.specs.declared.table.Table.{Table}
-use Rattle.sil_model.specs.Access.{◌>>=◌, field_at, set_field_at, set_whole_at, char_at, set_char_at}
+use Rattle.sil_model.specs.Access.{field_at, set_field_at, set_whole_at, char_at, set_char_at}
 use Rattle.sil_model.specs.CellWords.{kind_at, set_kind_at, word_at, set_word_at}
 use Rattle.sil_model.specs.Memory.{Memory}
 use Rattle.sil_model.specs.States.{State}
@@ -18,11 +18,9 @@ use Rattle.sil_micro.specs.declared.op.Area.{Area}
 use Rattle.sil_micro.specs.declared.op.Area.TheVariants as areas
 use Rattle.sil_micro.specs.declared.op.Target.{Target}
 use Rattle.sil_micro.specs.declared.op.Target.TheVariants as targets
-use Rattle.sil_micro.specs.declared.op.Text.{Text}
-use Rattle.sil_micro.specs.declared.op.Values.{Values}
 use Rattle.sil_micro.specs.declared.op.Op.{Op}
 use Rattle.sil_micro.specs.declared.op.Op.TheVariants.{Const, Copy, Arith, Jump, JumpIf, JumpEntry, JumpReturn, LoadField, StoreField, StoreCell, LoadChar, StoreChar, LoadWord, StoreWord, UnitCall, Begin, End as EndBy}
-use Rattle.sil_micro.specs.States.{Setting, Registers, Micro, held, put}
+use Rattle.sil_micro.specs.States.{Setting, Micro, held, put}
 use Rattle.sil_micro.specs.Words.{computed, holds, same_integer, low_byte, unsigned}
 use Rattle.sil_micro.specs.TableWords.{table_word, set_table_word}
 use Rattle.sil_micro.specs.UnitCalls.{can_call, absent}

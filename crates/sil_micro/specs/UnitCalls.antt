@@ -1,5 +1,6 @@
 -- Calls on units: 2 reads into the characters of its text, 3 writes values by the format that its text is, 4 rewinds, 5 backspaces and 6 ends the file.
 use Rattle.std.specs.Prelude.{ℕ, zero, suc, List, [], ◌∷◌, length, Option, Some, None, Bool, true, false, is_some, ◌&&◌, ◌==◌, if◌then◌else◌, nat_le, ℤ, pos, slice_get}
+use Rattle.sil_base.specs.declared.limits.TheConstants.{MAX_FORMAT_BYTES, MAX_VALUE_CHARACTERS}
 use Rattle.sil_model.specs.Access.{◌>>=◌, char_at}
 use Rattle.sil_model.specs.Integers.{◌⊞◌}
 use Rattle.sil_model.specs.Memory.{Memory}
@@ -22,27 +23,20 @@ chars_from m at (suc n) = do
 abbrev pub has_chars : Micro → ℕ → ℕ → Bool
 has_chars u at len = is_some (chars_from u.state.memory (held u.registers at) (unsigned (held u.registers len)))
 
--- the most characters of the format and of the values of call 3
-abbrev pub max_format : ℕ
-max_format = 256
-
-abbrev pub max_values : ℕ
-max_values = 65536
-
 abbrev pub is_format : Option (List ℕ) → Bool
 is_format None = false
-is_format (Some bytes) = nat_le (length bytes) max_format
+is_format (Some bytes) = nat_le (length bytes) MAX_FORMAT_BYTES
 
 -- the text is one of the code's formats, or characters that are there
 abbrev pub text_fits : Setting → Micro → ℕ → Text → Bool
 text_fits g u call text.None = true
 text_fits g u call (text.Format i) = is_format (slice_get g.formats i)
-text_fits g u call (text.Chars at len) = (if call == 3 then nat_le (unsigned (held u.registers len)) max_format else true) && has_chars u at len
+text_fits g u call (text.Chars at len) = (if call == 3 then nat_le (unsigned (held u.registers len)) MAX_FORMAT_BYTES else true) && has_chars u at len
 
 abbrev pub values_fit : Micro → Values → Bool
 values_fit u values.None = true
 values_fit u (values.Words count) = true
-values_fit u (values.Chars at len) = nat_le (unsigned (held u.registers len)) max_values && has_chars u at len
+values_fit u (values.Chars at len) = nat_le (unsigned (held u.registers len)) MAX_VALUE_CHARACTERS && has_chars u at len
 
 -- the call can be made
 unfoldable pub can_call : Setting → Micro → ℕ → Text → Values → Bool

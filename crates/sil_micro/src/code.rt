@@ -9,6 +9,12 @@ use sil_base::Record;
 use std::alloc::{AllocError, Global};
 use std::marker::Model;
 
+/// What the operations of a statement weigh at most, its return part included.
+pub const MAX_PIECE_WEIGHT: u64 = 12_000;
+
+/// What the operations of a code weigh at most.
+pub const MAX_CODE_WEIGHT: u64 = 197_000_000;
+
 /// Operations, and for each statement the first operation of its code and of its return part, where
 /// it has them; the number of static cells; and the texts of the formats.
 #[derive(Drop)]

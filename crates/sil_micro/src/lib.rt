@@ -6,6 +6,6 @@ mod code;
 mod laws;
 mod op;
 
-pub use code::Code;
+pub use code::{Code, MAX_CODE_WEIGHT, MAX_PIECE_WEIGHT};
 pub use laws::{law_of_parts, law_of_registers, law_on_ways};
 pub use op::{Area, Arith, Fixed, Op, Target, Test, Text, Values};

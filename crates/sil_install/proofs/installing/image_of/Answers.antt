@@ -1,7 +1,8 @@
 use Rattle.std.proofs.Common.{length, map, All, sym, ap, subst, ◌∙◌}
 use Rattle.std.specs.List.{flat_map}
 use Rattle.layout_params.specs.Packing.{FitsFields, packing}
-use Rattle.rv_emit.specs.Parts.{IsImageOf, kind_of}
+use Rattle.sil_model.specs.CellWords.{kind_of}
+use Rattle.rv_emit.specs.Parts.{IsImageOf}
 use Rattle.rv_emit.specs.Emits.{FitsImage, Carries}
 use Rattle.rv_emit.specs.Code.{last_place}
 use Rattle.sil_install.specs.Installed.{Behaves}
