@@ -7,3 +7,5 @@ pub mod Fixing
 pub mod Jumping
 pub mod FieldsRead
 pub mod FieldsWritten
+pub mod CellsWritten
+pub mod Statements

@@ -1,5 +1,5 @@
 -- What a state stands for after registers or cells were written.
-use Rattle.std.proofs.Common.{◌≡◌, ◌≢◌, ℕ, ◌+◌, ◌*◌, ◌<◌, ◌⊎◌, inl, inr, List, length, Bool, true, false, cond, ◌==◌, refl, sym, ap, subst, ◌∙◌, arith}
+use Rattle.std.proofs.Common.{◌≡◌, ◌≢◌, ℕ, suc, ◌+◌, ◌*◌, ◌<◌, ◌⊎◌, inl, inr, List, length, Bool, true, false, cond, ◌==◌, refl, sym, ap, subst, ◌∙◌, arith}
 use Rattle.std.specs.Prelude.{ℤ, FitsSigned}
 use Rattle.std.specs.Int.{w64, cast_unsigned}
 use Rattle.std.proofs.lemmas.Bool.{cases_eq}
@@ -111,6 +111,23 @@ stands_at g u s pc ys st file kept = record {
   count = st.count;
   words = st.words;
   tables = st.tables;
+  tapes = st.tapes;
+  failed = st.failed;
+}
+
+-- a statement was begun: its number is in x26, and a step less is left in x27
+pub stands_begun : (g : Setting) (u : Micro) (s : State) (k pc spent : ℕ) (ys : List ℕ) → StandsFor g u s → IsFile ys → register ys 26 ≡ k → register ys 27 + suc u.state.steps ≡ g.bound → ((q : ℕ) → q ≢ 26 → q ≢ 27 → register ys q ≡ register s.registers q) → StandsFor g (record u { state = record u.state { statement = k; steps = u.state.steps + 1 }; spent = spent }) (record s { pc = pc; registers = ys })
+stands_begun g u s k pc spent ys st file number left kept = record {
+  file = file;
+  registers = λ r h. kept (home r) (omega (arith, home_small r h)) (omega (arith, home_small r h)) ∙ st.registers r h;
+  fit = st.fit;
+  bound = kept 25 (omega arith) (omega arith) ∙ st.bound;
+  statement = number;
+  left = omega (arith, left);
+  memory = st.memory;
+  count = st.count;
+  words = record { current = st.words.current; previous = st.words.previous; words = st.words.words; current_fits = st.words.current_fits; previous_fits = st.words.previous_fits; words_fit = st.words.words_fit };
+  tables = record { bytes = st.tables.bytes; count = st.tables.count; whole = st.tables.whole };
   tapes = st.tapes;
   failed = st.failed;
 }

@@ -1,5 +1,5 @@
 -- The words of operations do what the operations do.
-use Rattle.std.specs.Prelude.{◌≡◌, ℕ, ◌+◌, ◌-◌, ◌*◌, ◌%◌, ◌^◌, ◌<◌, length, false, FitsSigned}
+use Rattle.std.specs.Prelude.{◌≡◌, ℕ, ◌+◌, ◌-◌, ◌*◌, ◌%◌, ◌^◌, ◌<◌, ◌≤◌, length, false, FitsSigned}
 use Rattle.std.specs.Int.{w64}
 use Rattle.layout_params.specs.declared.cell.Field.{Field}
 use Rattle.sil_micro.specs.declared.op.Arith.{Arith}
@@ -15,7 +15,7 @@ use Rattle.rv_straight.specs.Constants.{constant_code, constant_length}
 use Rattle.rv_straight.specs.Jumps.{leap_code, jump_if_code}
 use Rattle.rv_operations.specs.Homes.{home}
 use Rattle.rv_operations.specs.Places.{Places, target_place}
-use Rattle.rv_operations.specs.Codes.{fixed_bits, copy_code, arith_code, branch_op, load_field_code, store_field_code, store_cell_code}
+use Rattle.rv_operations.specs.Codes.{fixed_bits, copy_code, arith_code, branch_op, load_field_code, store_field_code, store_cell_code, begin_code, end_code}
 use Rattle.rv_operations.specs.Routines.{HasRoutines}
 use Rattle.rv_operations.specs.Does.{Does, Begins}
 
@@ -70,3 +70,16 @@ LawOfStoreCell =
     (image : Image) (last : ℕ) (g : Setting) (places : Places) (at a f v : ℕ) (u : Micro) (s : State)
     → at < 16 → a < 16 → f < 16 → v < 16 → HasRoutines image last g places.routines → Begins image last g (store_cell_code g.settings.sizes places.routines s.pc at a f v) u s
     → Does image last g places false 25 (s.pc + 32) s (act g (StoreCell at a f v) u)
+
+-- a statement begins within 6 instructions, and the run ends within 3
+abbrev pub LawOfBegin : Type 0
+LawOfBegin =
+    (image : Image) (last : ℕ) (g : Setting) (places : Places) (k : ℕ) (u : Micro) (s : State)
+    → k < 2 ^ 31 - 2 ^ 11 → k ≤ length image.statements → Begins image last g (begin_code k) u s
+    → Does image last g places false 6 (s.pc + 28) s (act g (Begin k) u)
+
+abbrev pub LawOfEnd : Type 0
+LawOfEnd =
+    (image : Image) (last : ℕ) (g : Setting) (places : Places) (by : ℕ) (u : Micro) (s : State)
+    → by < 16 → Begins image last g (end_code by) u s
+    → Does image last g places false 3 (s.pc + 12) s (act g (End by) u)

@@ -3,4 +3,4 @@
 
 mod laws;
 
-pub use laws::{law_of_fields, law_of_jumps, law_of_registers};
+pub use laws::{law_of_cells, law_of_fields, law_of_jumps, law_of_registers, law_of_statements};
