@@ -3,10 +3,17 @@ pub mod Regions
 pub mod Pieces
 pub mod Differing
 pub mod FieldPlaces
+pub mod Clearing
 pub mod Returning
 pub mod Checking
 pub mod Fitting
 pub mod Opening
+pub mod Characters
+pub mod Below
+pub mod Zeros
+pub mod Making
+pub mod KindBytes
+pub mod StateWords
 pub mod FieldLoads
 pub mod FieldStores
 pub mod CellStores
