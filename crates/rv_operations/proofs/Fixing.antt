@@ -19,7 +19,7 @@ use Rattle.rv_straight.proofs.Reaching.{start}
 use Rattle.rv_straight.proofs.Numbers.{constant_runs, length-constant}
 use Rattle.rv_operations.specs.Homes.{home}
 use Rattle.rv_operations.specs.StandsFor.{StandsFor}
-use Rattle.rv_operations.specs.Codes.{fixed_bits}
+use Rattle.rv_operations.specs.Links.{fixed_bits}
 use Rattle.rv_operations.specs.Does.{Does}
 use Rattle.rv_operations.specs.Laws.{LawOfConst}
 use Rattle.rv_operations.proofs.Doing.{does_within}

@@ -1,8 +1,5 @@
 -- The instructions of operations.
-use Rattle.std.specs.Prelude.{ℕ, zero, suc, ◌+◌, ◌*◌, ℤ, pos, negsuc, List, [], ◌∷◌, ◌++◌}
-use Rattle.std.specs.Int.{w64, cast_unsigned}
-use Rattle.sil_base.specs.Bytes.{number}
-use Rattle.sil_base.specs.declared.places.TheConstants.{FIRST_CELL}
+use Rattle.std.specs.Prelude.{ℕ, ◌+◌, ◌*◌, pos, negsuc, List, [], ◌∷◌, ◌++◌}
 use Rattle.rv_isa.specs.declared.instr.ROp.{ROp}
 use Rattle.rv_isa.specs.declared.instr.ROp.TheVariants as r
 use Rattle.rv_isa.specs.declared.instr.IOp.TheVariants.{Addi, Slli, Ld, Lbu}
@@ -14,7 +11,6 @@ use Rattle.rv_isa.specs.declared.instr.Instr.{Instr}
 use Rattle.rv_isa.specs.declared.instr.Instr.TheVariants.{R, I, S, B, U, Ecall}
 use Rattle.layout_params.specs.declared.cell.Field.{Field}
 use Rattle.layout_params.specs.declared.cell.Field.TheVariants as field
-use Rattle.layout_params.specs.Areas.{hidden_cells, all_cells}
 use Rattle.layout_params.specs.Parameters.{Settings}
 use Rattle.layout_params.specs.Sizes.{Sizes}
 use Rattle.layout_params.specs.Packing.{place_of, width_of}
@@ -22,35 +18,22 @@ use Rattle.sil_micro.specs.declared.op.Arith.{Arith}
 use Rattle.sil_micro.specs.declared.op.Arith.TheVariants.{Add, Sub, Mul, MulHigh, And, Or, Div, Rem}
 use Rattle.sil_micro.specs.declared.op.Area.{Area}
 use Rattle.sil_micro.specs.declared.op.Area.TheVariants as areas
-use Rattle.sil_micro.specs.declared.op.Fixed.{Fixed}
-use Rattle.sil_micro.specs.declared.op.Fixed.TheVariants.{Number, Descr, Obsiz, Sttl, Ttl, Date, Hidden, Dynamic, Stack, Cells}
 use Rattle.sil_micro.specs.declared.op.Op.{Op}
 use Rattle.sil_micro.specs.declared.op.Op.TheVariants.{Const, Copy, Arith as ArithOp, Jump, JumpIf, JumpEntry, JumpReturn, LoadField, StoreField, StoreCell, LoadChar, StoreChar, LoadWord, StoreWord, UnitCall, Begin, End}
+use Rattle.sil_micro.specs.declared.op.Text.{Text}
+use Rattle.sil_micro.specs.declared.op.Text.TheVariants as text
+use Rattle.sil_micro.specs.declared.op.Values.{Values}
+use Rattle.sil_micro.specs.declared.op.Values.TheVariants as values
 use Rattle.sil_micro.specs.declared.op.Test.{Test}
 use Rattle.sil_micro.specs.declared.op.Test.TheVariants.{Eq, Ne, Lt, Ge, Ltu, Geu}
-use Rattle.rv_straight.specs.Constants.{upper_of, lower_of, constant_code}
+use Rattle.rv_straight.specs.Constants.{upper_of, lower_of, constant_code, constant_length}
 use Rattle.rv_straight.specs.Jumps.{leap_code, jump_if_code}
 use Rattle.rv_routines.specs.Fields.{load_op, store_op}
 use Rattle.rv_operations.specs.Homes.{home}
-use Rattle.rv_operations.specs.Places.{Places, Routines, target_place}
-
--- ---- numbers
-
-abbrev pub cell_place : Settings → ℕ → ℕ
-cell_place settings cells = FIRST_CELL + cells * settings.sizes.descr
-
--- the bits of a fixed number
-abbrev pub fixed_bits : Settings → ℕ → Fixed → ℕ
-fixed_bits settings statics (Number n) = cast_unsigned w64 n
-fixed_bits settings statics Descr = settings.sizes.descr
-fixed_bits settings statics Obsiz = settings.bucket_count
-fixed_bits settings statics Sttl = settings.string_title_flag
-fixed_bits settings statics Ttl = settings.title_flag
-fixed_bits settings statics Date = number settings.date
-fixed_bits settings statics Hidden = cell_place settings statics
-fixed_bits settings statics Dynamic = cell_place settings (statics + hidden_cells settings)
-fixed_bits settings statics Stack = cell_place settings (statics + hidden_cells settings + settings.dynamic_size)
-fixed_bits settings statics Cells = all_cells settings statics
+use Rattle.rv_operations.specs.declared.places.Routines.{Routines}
+use Rattle.rv_operations.specs.declared.places.Links.{Links}
+use Rattle.rv_operations.specs.declared.places.Site.{Site}
+use Rattle.rv_operations.specs.Links.{fixed_bits}
 
 -- ---- registers
 
@@ -116,7 +99,7 @@ store_cell_code sizes routines place at a f v =
     ∷ []
 
 abbrev pub load_char_code : Routines → ℕ → ℕ → ℕ → List Instr
-load_char_code routines place to at = call_code at place routines.char ++ I Lbu (home to) 10 (pos 0) ∷ []
+load_char_code routines place to at = call_code at place routines.chars ++ I Lbu (home to) 10 (pos 0) ∷ []
 
 abbrev pub store_char_code : Routines → ℕ → ℕ → ℕ → List Instr
 store_char_code routines place at from = call_code at place routines.make ++ S Sb 10 (home from) (pos 0) ∷ []
@@ -171,3 +154,94 @@ end_code by = moved_to 10 by ∷ I Addi 17 0 (pos 1) ∷ Ecall ∷ []
 -- a jump through the routine that finds a statement, or its return part, by its entry in x10
 abbrev pub entry_code : ℕ → ℕ → ℕ → List Instr
 entry_code entry place routine = moved_to 10 entry ∷ leap_code 28 0 (place + 4) routine
+
+-- ---- calls on units, with their operands from x10 on, and their number in x17
+
+abbrev pub text_code : Links → Text → List Instr
+text_code links text.None = []
+text_code links (text.Format i) = U Lui 11 (upper_of links.text) ∷ I Addi 11 11 (lower_of links.text) ∷ I Addi 12 0 (pos links.text_len) ∷ []
+text_code links (text.Chars at len) = moved_to 11 at ∷ moved_to 12 len ∷ []
+
+abbrev pub values_code : Values → List Instr
+values_code values.None = I Addi 14 0 (pos 0) ∷ I Addi 15 0 (pos 0) ∷ []
+values_code (values.Words count) = U Lui 13 0x6_C000 ∷ I Addi 13 13 (pos 16) ∷ I Addi 14 0 (pos count) ∷ I Addi 15 0 (pos 1) ∷ []
+values_code (values.Chars at len) = moved_to 13 at ∷ moved_to 14 len ∷ I Addi 15 0 (pos 0) ∷ []
+
+abbrev pub unit_call_code : Links → ℕ → ℕ → ℕ → Text → Values → List Instr
+unit_call_code links call unit to text values =
+    moved_to 10 unit ∷ text_code links text ++ values_code values ++ I Addi 17 0 (pos call) ∷ Ecall ∷ I Addi (home to) 10 (pos 0) ∷ []
+
+-- ---- all operations
+
+-- the instructions of an operation where it stands
+abbrev pub op_code : Sizes → Site → Op → List Instr
+op_code sizes site (Const to value) = constant_code (home to) site.links.number
+op_code sizes site (Copy to from) = copy_code to from
+op_code sizes site (ArithOp kind to left right) = arith_code kind to left right
+op_code sizes site (Jump to) = leap_code 28 0 site.place site.links.to
+op_code sizes site (JumpIf test left right to) = jump_if_code (branch_op test) (home left) (home right) site.place site.links.to
+op_code sizes site (JumpEntry entry) = entry_code entry site.place site.routines.entry
+op_code sizes site (JumpReturn entry) = entry_code entry site.place site.routines.return_part
+op_code sizes site (LoadField f to at) = load_field_code sizes site.routines site.place f to at
+op_code sizes site (StoreField f at from) = store_field_code sizes site.routines site.place f at from
+op_code sizes site (StoreCell at a f v) = store_cell_code sizes site.routines site.place at a f v
+op_code sizes site (LoadChar to at) = load_char_code site.routines site.place to at
+op_code sizes site (StoreChar at from) = store_char_code site.routines site.place at from
+op_code sizes site (LoadWord area to at) = load_word_code site.routines site.place area to at
+op_code sizes site (StoreWord area at from) = store_word_code site.routines site.place area at from
+op_code sizes site (UnitCall call unit to text values) = unit_call_code site.links call unit to text values
+op_code sizes site (Begin k) = begin_code k
+op_code sizes site (End by) = end_code by
+
+-- the same for contracts, which don't unfold it
+unfoldable pub instructions : Sizes → Site → Op → List Instr
+instructions sizes site op = op_code sizes site op
+
+-- how many they are, by the operation alone
+abbrev pub load_word_length : Area → ℕ
+load_word_length areas.State = 10
+load_word_length areas.Scratch = 7
+load_word_length areas.Tables = 4
+load_word_length areas.Kind = 6
+load_word_length areas.Bytes = 4
+
+abbrev pub store_word_length : Area → ℕ
+store_word_length areas.State = 4
+store_word_length areas.Scratch = 7
+store_word_length areas.Tables = 4
+store_word_length areas.Kind = 4
+store_word_length areas.Bytes = 4
+
+abbrev pub store_field_length : Field → ℕ
+store_field_length field.A = 4
+store_field_length field.F = 5
+store_field_length field.V = 5
+
+abbrev pub text_length : Text → ℕ
+text_length text.None = 0
+text_length (text.Format i) = 3
+text_length (text.Chars at len) = 2
+
+abbrev pub values_length : Values → ℕ
+values_length values.None = 2
+values_length (values.Words count) = 4
+values_length (values.Chars at len) = 3
+
+abbrev pub op_length : Settings → ℕ → Op → ℕ
+op_length settings statics (Const to value) = constant_length (fixed_bits settings statics value)
+op_length settings statics (Copy to from) = 1
+op_length settings statics (ArithOp kind to left right) = 1
+op_length settings statics (Jump to) = 2
+op_length settings statics (JumpIf test left right to) = 3
+op_length settings statics (JumpEntry entry) = 3
+op_length settings statics (JumpReturn entry) = 3
+op_length settings statics (LoadField f to at) = 4
+op_length settings statics (StoreField f at from) = store_field_length f
+op_length settings statics (StoreCell at a f v) = 8
+op_length settings statics (LoadChar to at) = 4
+op_length settings statics (StoreChar at from) = 4
+op_length settings statics (LoadWord area to at) = load_word_length area
+op_length settings statics (StoreWord area at from) = store_word_length area
+op_length settings statics (UnitCall call unit to text values) = text_length text + values_length values + 4
+op_length settings statics (Begin k) = 7
+op_length settings statics (End by) = 3

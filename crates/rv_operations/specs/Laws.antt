@@ -15,7 +15,8 @@ use Rattle.rv_straight.specs.Constants.{constant_code, constant_length}
 use Rattle.rv_straight.specs.Jumps.{leap_code, jump_if_code}
 use Rattle.rv_operations.specs.Homes.{home}
 use Rattle.rv_operations.specs.Places.{Places, target_place}
-use Rattle.rv_operations.specs.Codes.{fixed_bits, copy_code, arith_code, branch_op, load_field_code, store_field_code, store_cell_code, begin_code, end_code}
+use Rattle.rv_operations.specs.Links.{fixed_bits}
+use Rattle.rv_operations.specs.Codes.{copy_code, arith_code, branch_op, load_field_code, store_field_code, store_cell_code, begin_code, end_code}
 use Rattle.rv_operations.specs.Routines.{HasRoutines}
 use Rattle.rv_operations.specs.Does.{Does, Begins}
 

@@ -1,5 +1,5 @@
 -- The routine that tests a number against another.
-use Rattle.std.proofs.Common.{◌≡◌, ℕ, ◌+◌, ◌-◌, ◌*◌, ◌%◌, ◌^◌, ◌<◌, ◌≤◌, List, [], ◌∷◌, length, Some, None, Bool, true, false, cond, refl, ap, arith}
+use Rattle.std.proofs.Common.{◌≡◌, ℕ, ◌-◌, ◌*◌, ◌%◌, ◌^◌, ◌<◌, ◌≤◌, [], ◌∷◌, length, Some, None, Bool, true, false, cond, refl, ap, arith}
 use Rattle.std.specs.Prelude.{nat_lt, not}
 use Rattle.image_file.specs.Image.{Image}
 use Rattle.rv_emulate.specs.States.{State, register}

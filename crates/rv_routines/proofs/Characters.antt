@@ -1,7 +1,6 @@
 -- The routines that test for characters.
 use Rattle.std.proofs.Common.{◌≡◌, ℕ, ◌+◌, ◌*◌, ◌/◌, ◌%◌, ◌^◌, ◌<◌, ◌≤◌, List, [], ◌∷◌, length, Option, Some, None, Bool, true, false, cond, ◌==◌, refl, sym, ap, subst, ◌∙◌, arith}
 use Rattle.std.specs.Prelude.{slice_get, nat_lt, option_and_then, not, bit_and}
-use Rattle.std.specs.Int.{w64, cast_signed}
 use Rattle.std.proofs.lemmas.Option.{slice_get_within}
 use Rattle.std.proofs.lemmas.Nat.{and_mask}
 use Rattle.layout_params.specs.declared.cell.Cell.{Cell}
@@ -15,7 +14,6 @@ use Rattle.rv_emulate.specs.declared.end.CpuEnd.TheVariants.{Undefined}
 use Rattle.rv_emulate.specs.Memory.{loaded}
 use Rattle.rv_emulate.specs.States.{State, Outcome, Ended, register}
 use Rattle.rv_emulate.specs.Values.{sum64, extended}
-use Rattle.rv_straight.specs.Ways.{Comes}
 use Rattle.rv_straight.specs.Registers.{IsFile, Keeps, Writes, written}
 use Rattle.rv_straight.specs.Effects.{Value}
 use Rattle.rv_straight.specs.Straight.{at, ◌▸◌}

@@ -18,19 +18,18 @@ use Rattle.rv_emulate.specs.States.{State, Outcome, Ended, register}
 use Rattle.rv_emulate.specs.Values.{sum64, extended, r_value}
 use Rattle.layout_params.proofs.LegalLayouts.{IsLegal, legal}
 use Rattle.rv_straight.specs.Ways.{Comes}
-use Rattle.rv_straight.specs.Registers.{IsFile, Writes, written}
+use Rattle.rv_straight.specs.Registers.{IsFile, Writes}
 use Rattle.rv_straight.specs.Effects.{Value}
 use Rattle.rv_straight.specs.Straight.{◌▸◌}
 use Rattle.rv_straight.specs.Code.{IsNext}
 use Rattle.rv_straight.specs.Constants.{upper_of}
 use Rattle.rv_straight.specs.Reaching.{Reaches}
 use Rattle.rv_straight.proofs.Ways.{comes_within}
-use Rattle.rv_straight.proofs.Registers.{read_kept}
-use Rattle.rv_straight.proofs.Reaching.{start, straight, passes, branches, jumps, undefined}
+use Rattle.rv_straight.proofs.Reaching.{start, straight, passes, branches, undefined}
 use Rattle.rv_straight.proofs.Numbers.{constant_is}
 use Rattle.rv_straight.proofs.Leaps.{code_at}
 use Rattle.rv_routines.specs.Holds.{HoldsMemory}
-use Rattle.rv_routines.specs.Routines.{Tested, kept, is_scratch}
+use Rattle.rv_routines.specs.Routines.{Tested, kept}
 use Rattle.rv_routines.specs.Codes.{check_code}
 use Rattle.rv_routines.specs.Tests.{check_test}
 use Rattle.rv_routines.specs.Laws.{LawOfCheck}

@@ -1,9 +1,9 @@
 -- A cell of zeros.
-use Rattle.std.proofs.Common.{◌≡◌, ℕ, zero, suc, ◌+◌, ◌-◌, ◌*◌, ◌/◌, ◌%◌, ◌^◌, ◌<◌, ◌≤◌, List, [], ◌∷◌, ◌++◌, length, take, drop, replicate, Some, refl, sym, ap, subst, ◌∙◌, arith, length-append}
+use Rattle.std.proofs.Common.{◌≡◌, ℕ, zero, suc, ◌+◌, ◌*◌, ◌/◌, ◌%◌, ◌<◌, ◌≤◌, List, [], ◌∷◌, ◌++◌, length, drop, replicate, Some, refl, sym, ap, subst, ◌∙◌, arith, length-append}
 use Rattle.std.proofs.lemmas.List.{length-replicate}
 use Rattle.std.specs.Prelude.{slice_get}
 use Rattle.sil_base.specs.Bytes.{low_bytes, piece, with_piece, AreBytes}
-use Rattle.sil_base.proofs.Numbers.{length-with_piece, piece-with_piece, low_bytes_below}
+use Rattle.sil_base.proofs.Numbers.{length-with_piece, piece-with_piece}
 use Rattle.rv_emulate.specs.Memory.{Memory}
 use Rattle.rv_routines.specs.Holds.{DifferInCell}
 use Rattle.rv_routines.specs.Tests.{zeroed, cleared}

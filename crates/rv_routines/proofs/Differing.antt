@@ -1,5 +1,5 @@
 -- Memories that differ in one cell alone.
-use Rattle.std.proofs.Common.{◌≡◌, ◌≢◌, ◌⊎◌, inl, inr, ℕ, ◌+◌, ◌*◌, ◌^◌, ◌<◌, ◌≤◌, List, length, Some, refl, sym, ap, subst, ◌∙◌, arith}
+use Rattle.std.proofs.Common.{◌≡◌, ◌≢◌, ◌⊎◌, inl, inr, ℕ, ◌+◌, ◌*◌, ◌<◌, ◌≤◌, List, length, Some, refl, sym, ap, subst, ◌∙◌, arith}
 use Rattle.std.proofs.lemmas.Bool.{cases_eq, cases_lt}
 use Rattle.std.proofs.lemmas.Nat.{mul-le}
 use Rattle.std.proofs.lemmas.List.{length-set}
@@ -7,7 +7,7 @@ use Rattle.std.proofs.lemmas.List.Elements.{All-set}
 use Rattle.std.proofs.lemmas.Option.{slice_get_within}
 use Rattle.std.specs.Prelude.{slice_get, slice_set}
 use Rattle.sil_base.specs.Bytes.{low_bytes, piece, with_piece, AreBytes}
-use Rattle.sil_base.proofs.Numbers.{length-with_piece, length-low_bytes, low_bytes_below, piece-with_piece_apart, AreBytes-with_piece}
+use Rattle.sil_base.proofs.Numbers.{length-with_piece, low_bytes_below, piece-with_piece_apart, AreBytes-with_piece}
 use Rattle.layout_params.specs.declared.cell.Cell.{Cell}
 use Rattle.layout_params.specs.Packing.{IsPacked}
 use Rattle.layout_params.specs.Sizes.{Sizes}
@@ -16,7 +16,7 @@ use Rattle.sil_model.specs.Memory.{FitsCell}
 use Rattle.sil_model.specs.CellWords.{kind_of}
 use Rattle.sil_model.specs.Access.{with_cell}
 use Rattle.rv_emulate.specs.Memory.{Memory}
-use Rattle.rv_routines.specs.Holds.{HoldsBytes, HoldsMemory, DifferInCell}
+use Rattle.rv_routines.specs.Holds.{HoldsMemory, DifferInCell}
 use Rattle.rv_routines.proofs.Pieces.{piece_written, set_here, set_there, kind_written, kind_there}
 
 -- a multiple of d is apart from the bytes of the i-th cell

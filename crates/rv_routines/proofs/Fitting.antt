@@ -1,5 +1,5 @@
 -- The routine that tests a number first.
-use Rattle.std.proofs.Common.{◌≡◌, ℕ, ◌+◌, ◌/◌, ◌%◌, ◌^◌, ◌<◌, ◌≤◌, List, [], ◌∷◌, length, Option, Some, None, Bool, true, false, cond, ◌==◌, refl, sym, ap, subst, ◌∙◌, arith}
+use Rattle.std.proofs.Common.{◌≡◌, ℕ, ◌+◌, ◌/◌, ◌%◌, ◌^◌, ◌<◌, ◌≤◌, [], ◌∷◌, length, None, Bool, true, false, cond, ◌==◌, refl, sym, ap, subst, ◌∙◌, arith}
 use Rattle.std.specs.Prelude.{nat_lt, not}
 use Rattle.std.specs.Int.{w64, cast_signed}
 use Rattle.std.proofs.lemmas.Nat.{div_below, le-div, pow_pos}
@@ -9,7 +9,6 @@ use Rattle.sil_model.specs.Access.{descr_at}
 use Rattle.image_file.specs.Image.{Image}
 use Rattle.rv_emulate.specs.States.{State, register}
 use Rattle.layout_params.proofs.LegalLayouts.{IsLegal, legal}
-use Rattle.rv_straight.specs.Ways.{Comes}
 use Rattle.rv_straight.specs.Registers.{IsFile, Keeps, Writes, written}
 use Rattle.rv_straight.specs.Effects.{Value}
 use Rattle.rv_straight.specs.Straight.{at, ◌▸◌}

@@ -1,7 +1,6 @@
 -- The routine that makes a cell characters.
-use Rattle.std.proofs.Common.{◌≡◌, ℕ, ◌+◌, ◌-◌, ◌*◌, ◌/◌, ◌%◌, ◌^◌, ◌<◌, ◌≤◌, List, [], ◌∷◌, ◌++◌, length, Option, Some, None, Bool, true, false, cond, ◌==◌, refl, sym, ap, subst, ◌∙◌, arith}
+use Rattle.std.proofs.Common.{◌≡◌, ℕ, ◌+◌, ◌-◌, ◌*◌, ◌/◌, ◌%◌, ◌^◌, ◌<◌, ◌≤◌, [], ◌∷◌, length, Option, Some, None, Bool, true, false, ◌==◌, refl, sym, ap, subst, ◌∙◌, arith}
 use Rattle.std.specs.Prelude.{pos, slice_get, nat_lt, option_and_then, not}
-use Rattle.std.specs.Int.{w64, cast_signed}
 use Rattle.std.proofs.lemmas.Nat.{div-add-mod', mul-le}
 use Rattle.std.proofs.lemmas.Option.{slice_get_within}
 use Rattle.sil_base.specs.Bytes.{low_bytes, with_piece}
@@ -32,7 +31,7 @@ use Rattle.rv_straight.proofs.Leaps.{code_at}
 use Rattle.rv_routines.specs.Holds.{HoldsMemory}
 use Rattle.rv_routines.specs.Routines.{Tested}
 use Rattle.rv_routines.specs.Codes.{make_code}
-use Rattle.rv_routines.specs.Tests.{made, make_test, cleared, zeroed}
+use Rattle.rv_routines.specs.Tests.{made, make_test, zeroed}
 use Rattle.rv_routines.specs.Laws.{LawOfMake}
 use Rattle.rv_routines.proofs.Cells.{offset, place_by, few_bytes}
 use Rattle.rv_routines.proofs.Regions.{load_kind, store_kind}

@@ -1,5 +1,5 @@
 -- Pieces of bytes and elements of lists after a write.
-use Rattle.std.proofs.Common.{◌≡◌, ◌≢◌, ℕ, zero, suc, ◌+◌, ◌*◌, ◌%◌, ◌<◌, ◌≤◌, List, [], ◌∷◌, ◌++◌, length, take, drop, Some, refl, ap, arith}
+use Rattle.std.proofs.Common.{◌≡◌, ◌≢◌, ℕ, zero, suc, ◌+◌, ◌%◌, ◌<◌, ◌≤◌, List, [], ◌∷◌, ◌++◌, length, take, drop, Some, refl, ap, arith}
 use Rattle.std.specs.Prelude.{slice_get, slice_set}
 use Rattle.sil_base.specs.Bytes.{low_bytes, piece, with_piece}
 

@@ -1,5 +1,5 @@
 -- The routine that sets a word of the state.
-use Rattle.std.proofs.Common.{◌≡◌, ℕ, zero, suc, ◌+◌, ◌-◌, ◌*◌, ◌%◌, ◌^◌, ◌<◌, ◌≤◌, List, [], ◌∷◌, length, Some, None, Bool, true, false, cond, ◌==◌, ◌&&◌, refl, ap, subst, ◌∙◌, arith}
+use Rattle.std.proofs.Common.{◌≡◌, ℕ, ◌+◌, ◌-◌, ◌*◌, ◌%◌, ◌^◌, ◌<◌, ◌≤◌, [], ◌∷◌, length, Some, None, Bool, true, false, cond, ◌==◌, ◌&&◌, refl, ap, arith}
 use Rattle.std.specs.Prelude.{nat_lt, not}
 use Rattle.layout_params.specs.Sizes.{Sizes}
 use Rattle.sil_model.specs.Memory as abstract
@@ -7,7 +7,7 @@ use Rattle.image_file.specs.Image.{Image}
 use Rattle.rv_emulate.specs.Memory.{stored}
 use Rattle.rv_emulate.specs.States.{State, register}
 use Rattle.rv_emulate.specs.Values.{sum64}
-use Rattle.rv_straight.specs.Registers.{IsFile, Writes}
+use Rattle.rv_straight.specs.Registers.{IsFile}
 use Rattle.rv_straight.specs.Effects.{Value, Leaves}
 use Rattle.rv_straight.specs.Straight.{◌▸◌}
 use Rattle.rv_straight.specs.Code.{IsNext}

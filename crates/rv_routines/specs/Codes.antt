@@ -1,5 +1,5 @@
 -- The instructions of the shared routines. Each ends with its own three words of the undefined end, or has them behind a branch.
-use Rattle.std.specs.Prelude.{ℕ, zero, suc, ◌+◌, ◌*◌, ◌/◌, pos, List, [], ◌∷◌, ◌++◌}
+use Rattle.std.specs.Prelude.{ℕ, zero, suc, ◌*◌, ◌/◌, pos, List, [], ◌∷◌, ◌++◌}
 use Rattle.rv_isa.specs.declared.instr.ROp.TheVariants.{Add, Sub, Mul, Divu, Remu}
 use Rattle.rv_isa.specs.declared.instr.IOp.TheVariants.{Addi, Andi, Slli, Srli, Lbu, Jalr}
 use Rattle.rv_isa.specs.declared.instr.SOp.TheVariants.{Sb, Sd}
