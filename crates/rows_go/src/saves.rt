@@ -158,12 +158,18 @@ static SAVED: [(&[(&str, &[u8])], u64, u8); 2] = [
     ),
 ];
 
-/// The status of `go SRC TABLES PARAMS IMAGE 5`.
+/// The status where memory was wanted.
+const WANT_OF_MEMORY: u8 = 12;
+
+/// The status of `go SRC TABLES PARAMS IMAGE 5`, but for want of memory.
 fn go(alloc: Global, store: &mut Recorder) -> Result<u8, AllocError> {
     let words = owned(alloc, &["go", "SRC", "TABLES", "PARAMS", "IMAGE", "5"])?;
     let mut notes = MemorySink::new(alloc, Vec::new(alloc));
     let mut units = Units::new();
-    Ok(sil_main(alloc, &words, store, &mut units, &mut notes).code)
+    match sil_main(alloc, &words, store, &mut units, &mut notes).code {
+        WANT_OF_MEMORY => Err(AllocError),
+        code => Ok(code),
+    }
 }
 
 /// Whether bytes are a whole image whose run exits with 0.

@@ -1,5 +1,6 @@
 -- The ways of the installed code, from statement to statement.
-use Rattle.std.specs.Prelude.{◌≡◌, ◌≢◌, ℕ, suc, ◌^◌, ◌<◌, ◌≤◌, length, map, Option, Some, None, option_map, Bool, true, false, slice_get, slice_index_or}
+use Rattle.std.specs.Prelude.{◌≡◌, ◌≢◌, ℕ, suc, ◌<◌, ◌≤◌, length, map, Option, Some, None, option_map, Bool, true, false, slice_get, slice_index_or}
+use Rattle.sil_base.specs.declared.limits.TheConstants.{MAX_STEPS, STATEMENT_INSTRUCTIONS}
 use Rattle.unit_io.specs.Tapes.{Tapes}
 use Rattle.layout_params.specs.Parameters.{Settings, Parameters}
 use Rattle.sil_model.specs.declared.end.End.{End}
@@ -72,7 +73,7 @@ pub record CarriesOut (image : Image) (program : Program) (parameters : Paramete
   pub beyond : (k : ℕ) → length program.statements ≤ k → place image last k ≡ last
   pub last_apart : entry_at image.statements last ≡ None
   pub first_apart : (entry_at image.statements FIRST_WORD ≡ None) × (FIRST_WORD ≢ last)
-  pub begins : (tapes : Tapes) (n : ℕ) → n ≤ 2 ^ 40 → ComesTo image parameters.settings last n false 2000 (start image tapes n) (first_state program parameters.settings tapes)
-  pub statement : (n : ℕ) (m : machine.State) (s : State) (st : Statement) → n ≤ 2 ^ 40 → slice_get program.statements m.statement ≡ Some st → IsValid program parameters.settings m → m.steps < n → s.pc ≡ place image last m.statement → Represents parameters.settings n m s → Makes image parameters.settings last n (writes_records st.name) (cost program parameters st m) s (make_step program parameters st m)
-  pub bound : (n : ℕ) (m : machine.State) (s : State) → n ≤ 2 ^ 40 → m.statement < length program.statements → IsValid program parameters.settings m → m.steps ≡ n → s.pc ≡ place image last m.statement → Represents parameters.settings n m s → EndsAs image last false 2000 s (Some ends.Budget) m.tapes
-  pub past : (n : ℕ) (m : machine.State) (s : State) → n ≤ 2 ^ 40 → m.statement ≡ length program.statements → IsValid program parameters.settings m → s.pc ≡ last → Represents parameters.settings n m s → EndsAs image last false 2000 s (Some (ends.Undefined m.statement)) m.tapes
+  pub begins : (tapes : Tapes) (n : ℕ) → n ≤ MAX_STEPS → ComesTo image parameters.settings last n false STATEMENT_INSTRUCTIONS (start image tapes n) (first_state program parameters.settings tapes)
+  pub statement : (n : ℕ) (m : machine.State) (s : State) (st : Statement) → n ≤ MAX_STEPS → slice_get program.statements m.statement ≡ Some st → IsValid program parameters.settings m → m.steps < n → s.pc ≡ place image last m.statement → Represents parameters.settings n m s → Makes image parameters.settings last n (writes_records st.name) (cost program parameters st m) s (make_step program parameters st m)
+  pub bound : (n : ℕ) (m : machine.State) (s : State) → n ≤ MAX_STEPS → m.statement < length program.statements → IsValid program parameters.settings m → m.steps ≡ n → s.pc ≡ place image last m.statement → Represents parameters.settings n m s → EndsAs image last false STATEMENT_INSTRUCTIONS s (Some ends.Budget) m.tapes
+  pub past : (n : ℕ) (m : machine.State) (s : State) → n ≤ MAX_STEPS → m.statement ≡ length program.statements → IsValid program parameters.settings m → s.pc ≡ last → Represents parameters.settings n m s → EndsAs image last false STATEMENT_INSTRUCTIONS s (Some (ends.Undefined m.statement)) m.tapes

@@ -1,5 +1,6 @@
 -- What an ECALL asks for: the number of the call stands in a7 (x17), its operands in a0 to a5 (x10 to x15).
 use Rattle.std.specs.Prelude.{ℕ, ◌*◌, ◌%◌, Bool, false, ◌&&◌, ◌||◌, ◌==◌, nat_lt, nat_le, List, Option, Some, None, if◌then◌else◌}
+use Rattle.sil_base.specs.declared.limits.TheConstants.{MAX_FORMAT_BYTES, MAX_LIST_ITEMS, MAX_VALUE_CHARACTERS}
 use Rattle.rv_emulate.specs.declared.end.CpuEnd.{CpuEnd}
 use Rattle.rv_emulate.specs.declared.end.CpuEnd.TheVariants.{Exit, Trap, Undefined, Budget, UnitFault, BadCall}
 use Rattle.rv_emulate.specs.Memory.{Memory, can_load, can_store}
@@ -31,14 +32,14 @@ can_read m xs = can_store m (register xs 12) (register xs 11)
 -- the values of call 3: a4 characters at a3 where a5 is 0, as many words of eight bytes where it is 1
 abbrev pub can_take : List ℕ → Memory → ℕ → ℕ → ℕ → Bool
 can_take constants m a3 a4 a5 =
-    if a5 == 0 then nat_le a4 65536 && can_load constants m a4 a3
-    else if a5 == 1 then nat_le a4 40 && (a3 % 8 == 0) && can_load constants m (8 * a4) a3
+    if a5 == 0 then nat_le a4 MAX_VALUE_CHARACTERS && can_load constants m a4 a3
+    else if a5 == 1 then nat_le a4 MAX_LIST_ITEMS && (a3 % 8 == 0) && can_load constants m (8 * a4) a3
     else false
 
 -- call 3 writes values by a format of a2 bytes at a1
 abbrev pub can_write : List ℕ → Memory → List ℕ → Bool
 can_write constants m xs =
-    nat_le (register xs 12) 256 && can_load constants m (register xs 12) (register xs 11) && can_take constants m (register xs 13) (register xs 14) (register xs 15)
+    nat_le (register xs 12) MAX_FORMAT_BYTES && can_load constants m (register xs 12) (register xs 11) && can_take constants m (register xs 13) (register xs 14) (register xs 15)
 
 -- a call on a unit that can be made: 2 reads, 3 writes, 4 rewinds, 5 backspaces, and 6 ends the file
 abbrev pub is_unit_call : List ℕ → Memory → List ℕ → Bool

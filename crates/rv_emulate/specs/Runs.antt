@@ -1,5 +1,6 @@
 -- Runs of the emulator, and the statements that they meet.
 use Rattle.std.specs.Prelude.{ℕ, zero, suc, ◌+◌, ◌*◌, List, [], ◌∷◌, ◌++◌, Option, Some, None, if◌then◌else◌, ◌==◌}
+use Rattle.sil_base.specs.declared.limits.TheConstants.{STATEMENT_INSTRUCTIONS, VISIT_INSTRUCTIONS}
 use Rattle.unit_io.specs.Tapes.{Tapes}
 use Rattle.unit_io.specs.Runs.{Run}
 use Rattle.image_file.specs.Image.{Image, StatementEntry}
@@ -69,7 +70,7 @@ emulation image tapes n budget = run_under image budget (start image tapes n)
 
 -- the instructions that a run of at most n statements over so many cells of so many bytes may take
 abbrev pub budget_of : ℕ → ℕ → ℕ → ℕ
-budget_of n cells descr = (n + 1) * (2000 + 400 * (4096 + 4 * cells * descr))
+budget_of n cells descr = (n + 1) * (STATEMENT_INSTRUCTIONS + VISIT_INSTRUCTIONS * (4096 + 4 * cells * descr))
 
 abbrev pub budget : Image → ℕ → ℕ
 budget image n = budget_of n (cell_total image) image.settings.sizes.descr

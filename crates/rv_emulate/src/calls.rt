@@ -9,7 +9,10 @@ ghost use Rattle.rv_emulate.specs.View.{memory_of};
 use crate::end::CpuEnd;
 use crate::hart::Hart;
 use crate::memory::{Regions, holds};
-use sil_base::{FIRST_CELL, FIRST_CONSTANT, FIRST_KIND, FIRST_SCRATCH, FIRST_TABLE};
+use sil_base::{
+    FIRST_CELL, FIRST_CONSTANT, FIRST_KIND, FIRST_SCRATCH, FIRST_TABLE, MAX_FORMAT_BYTES,
+    MAX_LIST_ITEMS, MAX_VALUE_CHARACTERS,
+};
 
 /// The answer of a call on a unit that is absent.
 pub(crate) const ABSENT: u64 = 4;
@@ -23,7 +26,7 @@ impl Hart {
         match xs[17] {
             2 => can_store(&self.memory, xs[12], xs[11]),
             3 => {
-                xs[12] <= 256
+                xs[12] <= MAX_FORMAT_BYTES
                     && can_load(constants, &self.memory, xs[12], xs[11])
                     && can_take(constants, &self.memory, xs[13], xs[14], xs[15])
             }
@@ -68,8 +71,10 @@ fn can_take(constants: &[u8], regions: &Regions, address: u64, count: u64, form:
     ensures { result ≡ can_take constants.now (memory_of regions.now) address count form }
 {
     match form {
-        0 => count <= 65536 && can_load(constants, regions, count, address),
-        1 => count <= 40 && address % 8 == 0 && can_load(constants, regions, 8 * count, address),
+        0 => count <= MAX_VALUE_CHARACTERS && can_load(constants, regions, count, address),
+        1 => count <= MAX_LIST_ITEMS as u64
+            && address % 8 == 0
+            && can_load(constants, regions, 8 * count, address),
         _ => false,
     }
 }

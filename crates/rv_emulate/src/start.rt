@@ -16,7 +16,9 @@ use crate::memory::Regions;
 use image_file::Image;
 use layout_params::Layout;
 use rv_isa::{Instr, decode};
-use sil_base::{FIRST_WORD, MAX_CELLS, MAX_STEPS, SCRATCH_BYTES};
+use sil_base::{
+    FIRST_WORD, MAX_CELLS, MAX_STEPS, SCRATCH_BYTES, STATEMENT_INSTRUCTIONS, VISIT_INSTRUCTIONS,
+};
 use std::alloc::{AllocError, Global};
 
 impl Cpu {
@@ -57,7 +59,7 @@ fn budget_of(n: u64, cells: u64, descr: u64) -> u128
     ensures { result ≡ budget_of n cells descr }
 {
     let bytes = 4096 + 4 * cells * descr;
-    u128::from(n + 1) * u128::from(2000 + 400 * bytes)
+    u128::from(n + 1) * u128::from(STATEMENT_INSTRUCTIONS + VISIT_INSTRUCTIONS * bytes)
 }
 
 /// The bound in s9 and s11.

@@ -7,13 +7,13 @@ use Rattle.sil_base.specs.declared.store.Load.TheVariants as load
 use Rattle.sil_base.specs.declared.store.Save.{Save}
 use Rattle.sil_base.specs.declared.store.Save.TheVariants as save
 
--- what a load of a file, or of none, answers and reads; memory is wanted only for a file that is within the limit
+-- what a load of a file, or of none, answers and reads; memory may be wanted for any file
 abbrev pub LoadsFile : Load → ℕ → List ℕ → Option (List ℕ) → Type 0
 LoadsFile load.Ok limit bytes file = file ≡ Some bytes
 LoadsFile load.Missing limit bytes file = file ≡ None
 LoadsFile load.TooLong limit bytes file = IsSomeAnd file (λ whole. limit < length whole)
 LoadsFile load.Failed limit bytes file = Unit {0}
-LoadsFile load.Memory limit bytes file = IsSomeAnd file (λ whole. length whole ≤ limit)
+LoadsFile load.Memory limit bytes file = Unit {0}
 
 -- the same of a store that tells its files
 abbrev pub Loads : Load → List ℕ → ℕ → List ℕ → Option Files → Type 0

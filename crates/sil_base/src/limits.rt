@@ -32,3 +32,15 @@ pub const MAX_CONSTANT_BYTES: usize = 67_108_864;
 
 /// The bytes of scratch.
 pub const SCRATCH_BYTES: usize = 65_536;
+
+/// The characters that a call on a unit writes.
+pub const MAX_VALUE_CHARACTERS: u64 = 65_536;
+
+/// The bytes of a format text.
+pub const MAX_FORMAT_BYTES: u64 = 256;
+
+/// The instructions that a statement may take besides its visits, and the start and the end of a run.
+pub const STATEMENT_INSTRUCTIONS: u64 = 2_000;
+
+/// The instructions that a statement may take for each visit.
+pub const VISIT_INSTRUCTIONS: u64 = 400;

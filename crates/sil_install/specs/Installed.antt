@@ -1,5 +1,6 @@
 -- Installed: bytes whose runs are the runs of the abstract machine.
-use Rattle.std.specs.Prelude.{◌≡◌, ◌≢◌, ℕ, ◌^◌, ◌<◌, ◌≤◌, ◌⊎◌, List, length, Some, None, option_map, slice_get}
+use Rattle.std.specs.Prelude.{◌≡◌, ◌≢◌, ℕ, ◌<◌, ◌≤◌, ◌⊎◌, List, length, Some, None, option_map, slice_get}
+use Rattle.sil_base.specs.declared.limits.TheConstants.{MAX_STEPS, STATEMENT_INSTRUCTIONS}
 use Rattle.unit_io.specs.Tapes.{Tapes}
 use Rattle.layout_params.specs.Parameters.{Parameters}
 use Rattle.sil_model.specs.declared.end.End.{End}
@@ -32,15 +33,15 @@ pub record SameRun (r : Run CpuEnd) (q : Run End) : Type 0 where
 -- for all tapes and every bound, the image's run under its budget is the machine's
 abbrev pub RunsAlike : Image → Program → Parameters → Type 0
 RunsAlike image program parameters =
-    (tapes : Tapes) (n : ℕ) → n ≤ 2 ^ 40 → SameRun (emulation image tapes n (budget image n)) (machine program parameters tapes n)
+    (tapes : Tapes) (n : ℕ) → n ≤ MAX_STEPS → SameRun (emulation image tapes n (budget image n)) (machine program parameters tapes n)
 
 -- no run fetches outside the code: there it would end so
 abbrev pub StaysInside : Image → Type 0
-StaysInside image = (tapes : Tapes) (n pc : ℕ) → n ≤ 2 ^ 40 → (emulation image tapes n (budget image n)).end ≢ Some (Fetch pc)
+StaysInside image = (tapes : Tapes) (n pc : ℕ) → n ≤ MAX_STEPS → (emulation image tapes n (budget image n)).end ≢ Some (Fetch pc)
 
 -- after i instructions from the start the run is at t
 abbrev pub IsAt : Image → Tapes → ℕ → ℕ → State → Type 0
-IsAt image tapes n i t = (n ≤ 2 ^ 40) × (run image i (start image tapes n) ≡ On t)
+IsAt image tapes n i t = (n ≤ MAX_STEPS) × (run image i (start image tapes n) ≡ On t)
 
 abbrev pub NeverWrites : Image → Type 0
 NeverWrites image = (tapes : Tapes) (n i : ℕ) (t : State) → IsAt image tapes n i t → Calls image 3 t → ⊥
@@ -73,10 +74,10 @@ Within image most s P = (j : ℕ) × (0 < j) × (j ≤ most) × P (run image j s
 
 -- how many instructions a run takes from place to place
 pub record Paced (image : Image) (program : Program) (parameters : Parameters) (last : ℕ) : Type 0 where
-  pub begins : (tapes : Tapes) (n : ℕ) → n ≤ 2 ^ 40 → Within image 2000 (start image tapes n) (λ o. (t : State) × (o ≡ On t) × (t.pc ≡ place image last 0))
+  pub begins : (tapes : Tapes) (n : ℕ) → n ≤ MAX_STEPS → Within image STATEMENT_INSTRUCTIONS (start image tapes n) (λ o. (t : State) × (o ≡ On t) × (t.pc ≡ place image last 0))
   pub statement : (tapes : Tapes) (n i k : ℕ) (t : State) → IsAt image tapes n i t → entry_at image.statements t.pc ≡ Some k → 0 < steps_left t → (m : machine.State) × Reached image program parameters tapes n i m × (s : Statement) × (slice_get program.statements k ≡ Some s) × Within image (cost program parameters s m) t (Arrives image last)
-  pub bound : (tapes : Tapes) (n i k : ℕ) (t : State) → IsAt image tapes n i t → entry_at image.statements t.pc ≡ Some k → steps_left t ≡ 0 → Within image 2000 t IsEnd
-  pub past : (tapes : Tapes) (n i : ℕ) (t : State) → IsAt image tapes n i t → t.pc ≡ last → Within image 2000 t IsEnd
+  pub bound : (tapes : Tapes) (n i k : ℕ) (t : State) → IsAt image tapes n i t → entry_at image.statements t.pc ≡ Some k → steps_left t ≡ 0 → Within image STATEMENT_INSTRUCTIONS t IsEnd
+  pub past : (tapes : Tapes) (n i : ℕ) (t : State) → IsAt image tapes n i t → t.pc ≡ last → Within image STATEMENT_INSTRUCTIONS t IsEnd
 
 -- what the runs of an image of a program are
 pub record Behaves (image : Image) (program : Program) (parameters : Parameters) : Type 0 where

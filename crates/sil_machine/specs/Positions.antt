@@ -1,5 +1,6 @@
 -- What contracts see of a machine between two steps.
-use Rattle.std.specs.Prelude.{◌≡◌, ℕ, ◌+◌, ◌^◌, ◌<◌, Bool, true, false, Option, Some, None, Result, Ok, Err, slice_get}
+use Rattle.std.specs.Prelude.{◌≡◌, ℕ, ◌+◌, ◌<◌, Bool, true, false, Option, Some, None, Result, Ok, Err, slice_get}
+use Rattle.sil_base.specs.declared.limits.TheConstants.{MAX_STEPS}
 use Rattle.unit_io.specs.Tapes.{Tapes, no_tapes}
 use Rattle.layout_params.specs.Parameters.{Parameters}
 use Rattle.sil_model.specs.declared.end.End.{End}
@@ -111,7 +112,7 @@ HasRun (HasEnded steps end) = Unit {0}
 
 -- a machine that has ended can step, and one that has taken fewer than 2^40 steps
 abbrev pub CanStep : Outcome → Type 0
-CanStep (Stands p) = p.steps < 2 ^ 40
+CanStep (Stands p) = p.steps < MAX_STEPS
 CanStep (HasEnded steps end) = Unit {0}
 
 -- the machine at the first state, in which the position is the same whatever the tapes

@@ -1,5 +1,5 @@
 // What a statement does, by its macro.
-ghost use Rattle.std.specs.Prelude.{◌≡◌, ◌≤◌, ◌^◌, ℕ, Err, false, true};
+ghost use Rattle.std.specs.Prelude.{◌≡◌, ◌≤◌, ℕ, Err, false, true};
 ghost use Rattle.unit_io.specs.Tapes.{Tapes};
 ghost use Rattle.unit_io.specs.Units.{RoseAt, tapes_of};
 ghost use Rattle.sil_model.specs.Prints.{writes_records};
@@ -9,6 +9,7 @@ ghost use Rattle.sil_machine.specs.Parts.{Meets, left_by, state_of};
 use crate::clauses::{endex, incra, movd};
 use crate::parts::{Parts, Stop};
 use crate::site::Site;
+use sil_base::MAX_STEPS;
 use sil_macros::Macro;
 use sil_model::Flow;
 use unit_io::UnitSet;
@@ -36,7 +37,7 @@ fn perform_on_units<U: UnitSet>(
 /// What a statement does whose macro calls no unit.
 #[tactic(auto, unfolding(sil_model::specs::Table::clause))]
 fn perform_alone(name: Macro, site: &Site, steps: u64, parts: &mut Parts) -> Option<Flow>
-    requires few { steps ≤ 2 ^ 40 }
+    requires few { steps ≤ MAX_STEPS }
     requires alone { calls_unit name ≡ false }
     ensures { (k : ℕ) (tapes : Tapes) → clause name site.now (state_of k steps parts.old tapes) ≡ left_by result (state_of k steps parts.new tapes) }
 {
@@ -57,7 +58,7 @@ pub fn perform<U: UnitSet>(
     parts: &mut Parts,
     units: &mut U,
 ) -> Result<Flow, Stop>
-    requires { steps ≤ 2 ^ 40 }
+    requires { steps ≤ MAX_STEPS }
     ensures meets { (k : ℕ) → let s = state_of k steps parts.old (tapes_of (U.seen units.old))
         in Meets s (clause name site.now s) result (state_of k steps parts.new (tapes_of (U.seen units.new))) }
     ensures stays { calls_unit name ≡ false → U.seen units.new ≡ U.seen units.old }

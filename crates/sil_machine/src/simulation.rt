@@ -1,5 +1,5 @@
 // The start of a run, and whole runs.
-ghost use Rattle.std.specs.Prelude.{◌≡◌, ◌≢◌, ◌≤◌, ◌^◌, IfOk, IsSome, Some, true};
+ghost use Rattle.std.specs.Prelude.{◌≡◌, ◌≢◌, ◌≤◌, IfOk, IsSome, Some, true};
 ghost use Rattle.unit_io.specs.Tapes.{no_tapes};
 ghost use Rattle.unit_io.specs.Units.{tapes_of};
 ghost use Rattle.sil_model.specs.Machine.{machine};
@@ -11,6 +11,7 @@ use crate::parts::Parts;
 use crate::state::{Position, run};
 use crate::tables::Tables;
 use layout_params::Params;
+use sil_base::MAX_STEPS;
 use sil_model::{Cells, End, Program, limits_of};
 use std::alloc::{AllocError, Global};
 use unit_io::UnitSet;
@@ -57,7 +58,7 @@ pub fn sim<U: UnitSet>(
     units: &mut U,
 ) -> End
     requires well_formed { IsWellFormed program.now params.now.settings }
-    requires steps { n ≤ 2 ^ 40 }
+    requires steps { n ≤ MAX_STEPS }
     ensures end { result ≢ End.Memory → IsSome (machine program.now params.now (tapes_of (U.seen units.old)) n).end → (machine program.now params.now (tapes_of (U.seen units.old)) n).end ≡ Some result }
     ensures tapes { result ≢ End.Memory → IsSome (machine program.now params.now (tapes_of (U.seen units.old)) n).end → tapes_of (U.seen units.new) ≡ (machine program.now params.now (tapes_of (U.seen units.old)) n).tapes }
 {

@@ -13,6 +13,7 @@ use crate::dispatch::perform;
 use crate::parts::{Parts, Stop};
 use crate::site::Site;
 use layout_params::Params;
+use sil_base::MAX_STEPS;
 use sil_model::{End, Flow, Program, Statement};
 use unit_io::UnitSet;
 
@@ -28,7 +29,7 @@ pub struct Position {
 /// Goes where a statement went, or says how the run ends. The statement counts as a step.
 fn finish(at: &mut Position, went: Result<Flow, Stop>) -> Result<(), End>
     requires number { at.old.statement < 2 ^ 32 - 1 }
-    requires steps { at.old.steps < 2 ^ 40 }
+    requires steps { at.old.steps < MAX_STEPS }
     ensures memory { ended_with_memory result ≡ had_memory went }
     ensures settles { ended_with_memory result ≡ true → (tapes : Tapes) → settle (state_at at.old tapes) (answered went (state_at at.old tapes)) ≡ left result (state_at at.new tapes) }
     ensures counts { at.new.steps ≡ at.old.steps + 1 }
@@ -65,7 +66,7 @@ fn make_step<U: UnitSet>(
     requires well_formed { IsWellFormed program.now params.now.settings }
     requires stands { slice_get program.now.statements at.old.statement ≡ Some statement.now }
     requires number { at.old.statement < 2 ^ 32 - 1 }
-    requires steps { at.old.steps < 2 ^ 40 }
+    requires steps { at.old.steps < MAX_STEPS }
     ensures steps { Makes (make_step program.now params.now statement.now (state_at at.old (tapes_of (U.seen units.old)))) result (state_at at.new (tapes_of (U.seen units.new))) }
     ensures counts { at.new.steps ≡ at.old.steps + 1 }
     ensures stays { calls_unit statement.now.name ≡ false → U.seen units.new ≡ U.seen units.old }
@@ -93,7 +94,7 @@ pub fn step<U: UnitSet>(
     units: &mut U,
 ) -> Result<(), End>
     requires well_formed { IsWellFormed program.now params.now.settings }
-    requires steps { at.old.steps < 2 ^ 40 }
+    requires steps { at.old.steps < MAX_STEPS }
     ensures steps { Makes (step program.now params.now (state_at at.old (tapes_of (U.seen units.old)))) result (state_at at.new (tapes_of (U.seen units.new))) }
     ensures counts { at.new.steps ≡ counted program.now at.old }
     ensures one_more { at.new.steps ≤ at.old.steps + 1 }
@@ -126,7 +127,7 @@ pub fn run<U: UnitSet>(
     units: &mut U,
 ) -> End
     requires well_formed { IsWellFormed program.now params.now.settings }
-    requires steps { at.old.steps + n ≤ 2 ^ 40 }
+    requires steps { at.old.steps + n ≤ MAX_STEPS }
     ensures { result ≢ End.Memory → IsAs (record { end = Some result; tapes = tapes_of (U.seen units.new) }) (outcome_of program.now params.now n (state_at at.old (tapes_of (U.seen units.old)))) }
 {
     for i in 0..n {

@@ -1,5 +1,6 @@
 -- The instructions that a statement may take.
 use Rattle.std.specs.Prelude.{ℕ, ◌+◌, ◌*◌, List, [], ◌∷◌, length}
+use Rattle.sil_base.specs.declared.limits.TheConstants.{STATEMENT_INSTRUCTIONS, VISIT_INSTRUCTIONS}
 use Rattle.layout_params.specs.Parameters.{Settings, Parameters}
 use Rattle.sil_macros.specs.declared.names.Macro.{Macro}
 use Rattle.sil_macros.specs.declared.names.Macro.TheVariants.{Endex, Incra, Movd}
@@ -31,7 +32,7 @@ unfoldable pub weight : Program → Parameters → Statement → State → ℕ
 weight program parameters statement s = operand_count statement.args + visits statement.name (site_of program parameters s.statement statement) s
 
 unfoldable pub cost : Program → Parameters → Statement → State → ℕ
-cost program parameters statement s = 2000 + 400 * weight program parameters statement s
+cost program parameters statement s = STATEMENT_INSTRUCTIONS + VISIT_INSTRUCTIONS * weight program parameters statement s
 
 -- no valid state makes a statement weigh more, by the number of all cells
 abbrev pub weight_limit : Settings → ℕ → ℕ

@@ -1,5 +1,6 @@
 -- States that a run can come to.
-use Rattle.std.specs.Prelude.{◌≡◌, ℕ, ◌+◌, ◌*◌, ◌^◌, ◌<◌, ◌≤◌, length, All, Some, slice_get, ℤ, pos, ◌+ℤ◌}
+use Rattle.std.specs.Prelude.{◌≡◌, ℕ, ◌+◌, ◌*◌, ◌<◌, ◌≤◌, length, All, Some, slice_get, ℤ, pos, ◌+ℤ◌}
+use Rattle.sil_base.specs.declared.limits.TheConstants.{MAX_STEPS}
 use Rattle.layout_params.specs.Parameters.{Settings, Parameters}
 use Rattle.unit_io.specs.Tapes.{Tapes}
 use Rattle.sil_model.specs.declared.program.Program.{Program}
@@ -25,12 +26,12 @@ pub record IsValid (program : Program) (settings : Settings) (s : State) : Type 
   pub tables : All (IsTable (length program.tables)) s.tables
   pub current : IsTop settings (length program.cells) s.current
   pub previous : IsTop settings (length program.cells) s.previous
-  pub steps : s.steps ≤ 2 ^ 40
+  pub steps : s.steps ≤ MAX_STEPS
 
 -- the start is valid with no step taken, a step keeps states valid and is counted, and the weight of a statement has a bound
 pub record IsSteady (program : Program) (parameters : Parameters) : Type 0 where
   pub start : (tapes : Tapes) → IsValid program parameters.settings (first_state program parameters.settings tapes) × ((first_state program parameters.settings tapes).steps ≡ 0)
-  pub keeps : (statement : Statement) (s t : State) → slice_get program.statements s.statement ≡ Some statement → IsValid program parameters.settings s → s.steps < 2 ^ 40 →
+  pub keeps : (statement : Statement) (s t : State) → slice_get program.statements s.statement ≡ Some statement → IsValid program parameters.settings s → s.steps < MAX_STEPS →
       make_step program parameters statement s ≡ Goes t → IsValid program parameters.settings t × (t.steps ≡ s.steps + 1)
   pub bound : (statement : Statement) (s : State) → slice_get program.statements s.statement ≡ Some statement → IsValid program parameters.settings s →
       weight program parameters statement s ≤ weight_limit parameters.settings (length s.memory.cells)
