@@ -1,5 +1,5 @@
 -- Bytes have their parts in one way alone.
-use Rattle.std.proofs.Common.{◌≡◌, ◌∙◌, ℕ, suc, ◌+◌, ◌*◌, ◌^◌, ◌<◌, ◌≤◌, Bool, true, false, List, [], ◌∷◌, ◌++◌, length, get_or, refl, ap, sym, arith, length-append}
+use Rattle.std.proofs.Common.{◌≡◌, ◌∙◌, ℕ, ◌+◌, ◌*◌, ◌^◌, ◌≤◌, Bool, true, false, List, [], ◌∷◌, length, get_or, refl, ap, sym, arith, length-append}
 use Rattle.std.specs.Prelude.{IsTrue}
 use Rattle.std.specs.List.{flat_map}
 use Rattle.sil_base.specs.declared.places.TheConstants.{FIRST_WORD}
@@ -8,13 +8,14 @@ use Rattle.image_file.specs.declared.counts.Counts.{Counts}
 use Rattle.image_file.specs.Image.{Image, StatementEntry}
 use Rattle.image_file.specs.Spelling.{FitAll, numbers_in, mark_part, version_part, settings_part, counts_part, counts_list, entry_part}
 use Rattle.image_file.specs.Grammar.{Part, MarkPart, VersionPart, SettingsPart, CountsPart, LimitsPart, StatementsPart, WordsPart, ConstantsPart, CellsPart, KindsPart, TablesPart, EndPart, AreWithin, Begins, Stand}
-use Rattle.image_file.proofs.Parts.{IsSame, same_parts, same_front, same_rest, length-numbers_in, same_numbers}
+use Rattle.image_file.specs.Reading.{FitEntries}
+use Rattle.image_file.proofs.Parts.{each_place, same_parts, same_front, same_rest, length-numbers_in, same_numbers}
 use Rattle.image_file.proofs.SpelledEntries.{length-entries, length-entry_part, same_entry}
-use Rattle.image_file.proofs.Fitting.{FitEntries, parameters_fit, words_fit, entries_fit_bytes}
+use Rattle.image_file.proofs.Fitting.{parameters_fit, words_fit, entries_fit_bytes}
 
 -- ---- settings, counts and entries
 
-settings_of : List ℕ → List ℕ → Settings
+abbrev pub settings_of : List ℕ → List ℕ → Settings
 settings_of xs date = record {
   sizes = record {
     descr = get_or xs 0 0;
@@ -35,11 +36,14 @@ settings_of xs date = record {
   date = date;
 }
 
+-- settings of fourteen numbers
+pub settings_again : (xs date : List ℕ) → length xs ≡ 14 → settings_numbers (settings_of xs date) ≡ xs
+settings_again xs date h = sym (each_place 14 0 xs h)
+
 same_fields : (s t : Settings) → settings_numbers s ≡ settings_numbers t → s.date ≡ t.date → s ≡ t
-unfolding settings_of
 same_fields s t e f = ap (λ xs. settings_of xs s.date) e ∙ ap (λ d. settings_of (settings_numbers t) d) f
 
-length-settings : (s : Settings) → AreLegalSettings s → length (settings_part s) ≡ 120
+pub length-settings : (s : Settings) → AreLegalSettings s → length (settings_part s) ≡ 120
 unfolding settings_part
 length-settings s h = omega (arith, length-append (numbers_in 8 (settings_numbers s)) s.date, length-numbers_in 8 (settings_numbers s), h.date.0)
 
@@ -51,7 +55,7 @@ same_settings_part s t p q e =
     let dates = same_rest (numbers_in 8 (settings_numbers s)) (numbers_in 8 (settings_numbers t)) s.date t.date e size in
     same_fields s t (same_numbers 8 (settings_numbers s) (settings_numbers t) (parameters_fit s p) (parameters_fit t q) refl numbers) dates
 
-counts_from : List ℕ → Counts
+abbrev pub counts_from : List ℕ → Counts
 counts_from xs = record {
   statements = get_or xs 0 0;
   words = get_or xs 1 0;
@@ -60,15 +64,15 @@ counts_from xs = record {
   tables = get_or xs 4 0;
 }
 
-length-counts : (c : Counts) → length (counts_part c) ≡ 20
+pub length-counts : (c : Counts) → length (counts_part c) ≡ 20
 unfolding counts_part
 length-counts c = length-numbers_in 4 (counts_list c)
 
 same_counts_part : (c d : Counts) → FitAll 4 (counts_list c) → FitAll 4 (counts_list d) → counts_part c ≡ counts_part d → c ≡ d
-unfolding counts_part counts_from
+unfolding counts_part
 same_counts_part c d p q e = ap counts_from (same_numbers 4 (counts_list c) (counts_list d) p q refl e)
 
-same_entries : (es fs : List StatementEntry) → FitEntries es → FitEntries fs → length es ≡ length fs → flat_map entry_part es ≡ flat_map entry_part fs → es ≡ fs
+pub same_entries : (es fs : List StatementEntry) → FitEntries es → FitEntries fs → length es ≡ length fs → flat_map entry_part es ≡ flat_map entry_part fs → es ≡ fs
 same_entries [] [] p q h e = refl
 same_entries [] (f ∷ fs) p q h e = cc
 same_entries (d ∷ es) [] p q h e = cc
@@ -137,7 +141,7 @@ head_part KindsPart c d i j a b rest more head same p q = cc
 head_part TablesPart c d i j a b rest more head same p q = cc
 head_part EndPart c d i j a b rest more head same p q = cc
 
-end_of_code : (c : Counts) → c.words ≤ 201310208 → FIRST_WORD + 4 * c.words ≤ 2 ^ 33
+pub end_of_code : (c : Counts) → c.words ≤ 201310208 → FIRST_WORD + 4 * c.words ≤ 2 ^ 33
 end_of_code c h = omega arith
 
 one_part : (p : Part) (c d : Counts) (i j : Image) (a b rest more : List ℕ) → Known c i d j → a ≡ b → Begins p c i a rest → Begins p d j b more → Agree p c i d j rest more

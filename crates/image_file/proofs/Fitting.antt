@@ -1,12 +1,12 @@
 -- The numbers of a legal image fit their bytes.
-use Rattle.std.proofs.Common.{◌≡◌, ◌∙◌, ℕ, zero, suc, ◌+◌, ◌*◌, ◌%◌, ◌^◌, ◌<◌, ◌≤◌, ◌⊎◌, inl, inr, Bool, true, false, ◌||◌, ◌&&◌, ◌==◌, nat_le, nat_lt, List, [], ◌∷◌, ◌++◌, length, All, refl, arith}
+use Rattle.std.proofs.Common.{◌≡◌, ℕ, zero, suc, ◌+◌, ◌*◌, ◌%◌, ◌^◌, ◌<◌, ◌≤◌, ◌⊎◌, inl, inr, Bool, true, false, ◌||◌, ◌&&◌, ◌==◌, nat_le, nat_lt, List, [], ◌∷◌, ◌++◌, All, refl, arith}
 use Rattle.std.specs.Prelude.{IsTrue}
 use Rattle.std.proofs.Math.Pow.{pow-lt}
-use Rattle.sil_base.specs.declared.places.TheConstants.{FIRST_WORD}
 use Rattle.layout_params.specs.Parameters.{Settings, AreLegalSettings, AreBits, is_bit_below, settings_numbers}
 use Rattle.layout_params.proofs.LegalLayouts.{IsLegal, legal}
 use Rattle.image_file.specs.Image.{StatementEntry, places_rise}
 use Rattle.image_file.specs.Spelling.{FitAll}
+use Rattle.image_file.specs.Reading.{FitEntries}
 
 FitAll-append : (n : ℕ) (xs ys : List ℕ) → FitAll n xs → FitAll n ys → FitAll n (xs ++ ys)
 FitAll-append n [] ys h k = k
@@ -45,10 +45,9 @@ pub words_fit : (xs : List ℕ) → All (λ w. w < 2 ^ 32) xs → FitAll 4 xs
 words_fit [] h = tt
 words_fit (x ∷ xs) h = (h 0 0 (omega arith), words_fit xs (λ k d lt. h (suc k) d (omega arith)))
 
--- entries whose numbers fit
-abbrev pub FitEntries : List StatementEntry → Type 0
-FitEntries [] = Unit {0}
-FitEntries (e ∷ es) = (e.place < 256 ^ 8) × (e.card < 256 ^ 4) × FitEntries es
+pub FitEntries-append : (es fs : List StatementEntry) → FitEntries es → FitEntries fs → FitEntries (es ++ fs)
+FitEntries-append [] fs h k = k
+FitEntries-append (e ∷ es) fs h k = (h.0, h.1, FitEntries-append es fs h.2 k)
 
 both : (a b c d : Bool) → (a && b && c && d) ≡ true → (c ≡ true) × (d ≡ true)
 both a b c d h = grind arith

@@ -5,3 +5,4 @@ pub mod Fitting
 pub mod PartRules
 pub mod Parts
 pub mod SpelledEntries
+pub mod Stops

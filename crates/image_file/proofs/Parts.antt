@@ -1,10 +1,11 @@
 -- Parts of bytes, and the numbers in them.
-use Rattle.std.proofs.Common.{◌≡◌, ◌∙◌, ℕ, zero, suc, ◌+◌, ◌*◌, ◌^◌, ◌<◌, ◌≤◌, List, [], ◌∷◌, ◌++◌, length, take, drop, get_or, refl, ap, sym, arith, append_assoc, length-append}
+use Rattle.std.proofs.Common.{◌≡◌, ◌∙◌, ℕ, zero, suc, ◌+◌, ◌*◌, ◌^◌, ◌<◌, List, [], ◌∷◌, ◌++◌, length, take, drop, get_or, refl, ap, sym, arith, length-append, inl, inr}
 use Rattle.std.proofs.Math.Nat.{mul-zero}
-use Rattle.std.proofs.lemmas.List.{take-append-drop, take_at, drop_at, drop-drop, get_or-drop, length-take, length-drop}
-use Rattle.std.specs.List.{flat_map}
-use Rattle.sil_base.specs.Bytes.{number, low_bytes, piece, AreBytes}
-use Rattle.sil_base.proofs.Numbers.{length-low_bytes, number-low_bytes, low_bytes-number, AreBytes-piece}
+use Rattle.std.proofs.lemmas.List.{take-append-drop, take_at, drop_at, drop-drop, get_or-drop, get_or_append_left, get_or_past, length-take, length-drop}
+use Rattle.std.proofs.lemmas.Bool.{cases_lt}
+use Rattle.std.proofs.Math.Seq.{drop-cons}
+use Rattle.sil_base.specs.Bytes.{number, low_bytes, AreBytes}
+use Rattle.sil_base.proofs.Numbers.{length-low_bytes, number-low_bytes, low_bytes-number, number_below, AreBytes-piece}
 use Rattle.byteorder.specs.Endian.{little_number, IsRead}
 use Rattle.image_file.specs.Spelling.{numbers_in, FitAll}
 use Rattle.image_file.proofs.ByteNumbers.{little_from-number}
@@ -77,3 +78,32 @@ bytes_of_numbers n (d ∷ dst) bytes h fit read =
     let rest_long : length (drop n bytes) ≡ n * length dst = omega (arith, length-drop n bytes) in
     let others : drop n bytes ≡ numbers_in n dst = bytes_of_numbers n dst (drop n bytes) rest_long (AreBytes-drop n bytes fit) (λ k lt. read (suc k) (omega arith) ∙ ap (λ m. little_number n (drop m bytes)) (more_than n k) ∙ ap (λ part. little_number n part) (sym (drop-drop (n * k) n bytes))) in
     sym (take-append-drop n bytes) ∙ ap (λ xs. take n bytes ++ xs) others ∙ ap (λ xs. xs ++ numbers_in n dst) (sym front)
+
+pub number_fits : (bytes : List ℕ) (n : ℕ) → length bytes ≡ n → AreBytes bytes → number bytes < 256 ^ n
+number_fits bytes n e h = rw (← e) (number_below bytes h)
+
+-- the numbers that were read fit
+pub fit_of_numbers : (n : ℕ) (dst bytes : List ℕ) → length bytes ≡ n * length dst → AreBytes bytes → IsRead (λ k part. little_number k part) n bytes dst → FitAll n dst
+fit_of_numbers n [] bytes h fit read = tt
+fit_of_numbers n (d ∷ dst) bytes h fit read =
+    let long : length bytes ≡ n + n * length dst = h ∙ more_than n (length dst) in
+    let none : n * 0 ≡ 0 = mul-zero n in
+    let first : d ≡ number (take n bytes) = read 0 (omega arith) ∙ ap (λ m. little_number n (drop m bytes)) none ∙ little_from-number 0 n bytes (omega arith) in
+    let size : length (take n bytes) ≡ n = omega (arith, length-take n bytes) in
+    let below : number (take n bytes) < 256 ^ n = number_fits (take n bytes) n size (AreBytes-piece 0 n bytes fit) in
+    let rest_long : length (drop n bytes) ≡ n * length dst = omega (arith, length-drop n bytes) in
+    (rw first below, fit_of_numbers n dst (drop n bytes) rest_long (AreBytes-drop n bytes fit) (λ k lt. read (suc k) (omega arith) ∙ ap (λ m. little_number n (drop m bytes)) (more_than n k) ∙ ap (λ part. little_number n part) (sym (drop-drop (n * k) n bytes))))
+
+-- the first of bytes are bytes
+pub AreBytes-front : (bytes front rest : List ℕ) → bytes ≡ front ++ rest → AreBytes bytes → AreBytes front
+AreBytes-front bytes front rest e h i =
+    elim (cases_lt i (length front)) [ inl lt ↦ rw (← get_or_append_left front rest 0 i lt, ← e) (h i) | inr le ↦ rw (get_or_past front i 0 le) (omega arith) ]
+
+-- n numbers of a list, from the k-th on
+abbrev pub from_place : ℕ → ℕ → List ℕ → List ℕ
+from_place k zero xs = []
+from_place k (suc n) xs = get_or xs k 0 ∷ from_place (suc k) n xs
+
+pub each_place : (n k : ℕ) (xs : List ℕ) → length xs ≡ k + n → drop k xs ≡ from_place k n xs
+each_place zero k xs h = no_bytes (drop k xs) (omega (arith, length-drop k xs))
+each_place (suc n) k xs h = drop-cons xs k 0 (omega arith) ∙ ap (λ ys. get_or xs k 0 ∷ ys) (each_place n (suc k) xs (omega arith))

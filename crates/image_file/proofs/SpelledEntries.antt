@@ -1,5 +1,5 @@
 -- The bytes of statements' entries.
-use Rattle.std.proofs.Common.{◌≡◌, ◌∙◌, ℕ, suc, ◌+◌, ◌*◌, ◌^◌, ◌<◌, ◌≤◌, List, [], ◌∷◌, ◌++◌, length, take, drop, refl, ap, arith, append_assoc, length-append, map, sym}
+use Rattle.std.proofs.Common.{◌≡◌, ◌∙◌, ℕ, ◌+◌, ◌*◌, ◌^◌, ◌<◌, List, [], ◌∷◌, ◌++◌, length, take, drop, refl, ap, arith, append_assoc, length-append, map, sym, subst}
 use Rattle.std.proofs.lemmas.List.{take-append-drop, length-take, length-drop, drop-drop, take_all, append-nil, map-append}
 use Rattle.std.specs.List.{flat_map}
 use Rattle.sil_macros.specs.declared.names.Macro.{Macro}
@@ -9,6 +9,8 @@ use Rattle.sil_base.specs.Bytes.{number, low_bytes, piece, AreBytes}
 use Rattle.sil_base.proofs.Numbers.{number-low_bytes, AreBytes-piece}
 use Rattle.image_file.specs.Image.{StatementEntry, entry_of}
 use Rattle.image_file.specs.Spelling.{entry_part}
+use Rattle.image_file.specs.Reading.{FitEntries}
+use Rattle.image_file.proofs.Fitting.{FitEntries-append}
 use Rattle.image_file.proofs.Parts.{same_front, same_rest, low_again}
 
 number_of_below : (m : Macro) → number_of m < 256 ^ 2
@@ -92,6 +94,10 @@ one_more read all entry bytes rest here more e cut h same =
     ∙ ap (λ xs. flat_map entry_part (map entry_of read) ++ xs) (cut ∙ ap (λ xs. xs ++ more) (h ∙ sym (append-nil (entry_part (entry_of entry)))))
     ∙ sym (append_assoc (flat_map entry_part (map entry_of read)) (entry_part (entry_of entry) ++ []) more)
     ∙ ap (λ xs. xs ++ more) (sym (entries_append (map entry_of read) (entry_of entry ∷ [])) ∙ ap (λ es. flat_map entry_part es) (sym (map-append entry_of read (entry ∷ [])) ∙ ap (λ xs. map entry_of xs) (sym same)))
+
+pub fit_more : (read all : List (ℕ × ℕ × Macro)) (entry : ℕ × ℕ × Macro) → FitEntries (map entry_of read) → entry.0 < 256 ^ 8 → entry.1 < 256 ^ 4 → all ≡ read ++ entry ∷ [] → FitEntries (map entry_of all)
+fit_more read all entry fit place card same =
+    subst (λ es. FitEntries es) (sym (ap (λ xs. map entry_of xs) same ∙ map-append entry_of read (entry ∷ []))) (FitEntries-append (map entry_of read) (entry_of entry ∷ []) fit (place, card, tt))
 
 -- where whole entries are read from the bytes of so many, nothing is left
 pub none_left : (n count : ℕ) (bytes rest : List ℕ) → length bytes ≡ 16 * count → 16 * n + length rest ≡ length bytes → length rest < 16 → (rest ≡ []) × (n ≡ count)

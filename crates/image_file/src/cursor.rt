@@ -1,6 +1,6 @@
 // The parts of bytes, one after another.
 ghost use Rattle.std.specs.Prelude.{◌≡◌, ◌*◌, ◌^◌, ◌<◌, ◌++◌, All, length, IfOk, IfErr, MatchResult};
-ghost use Rattle.image_file.specs.Spelling.{numbers_in};
+ghost use Rattle.image_file.specs.Spelling.{FitAll, numbers_in};
 ghost use Rattle.image_file.specs.Reading.{StopsAt};
 
 use crate::stop::ImageStop;
@@ -46,7 +46,8 @@ pub(crate) fn read_words(alloc: Global, bytes: &[u8], count: usize) -> Result<Ve
 /// The five counts.
 pub(crate) fn read_numbers(bytes: &[u8]) -> [u32; 5]
     requires { length bytes.now ≡ 20 }
-    ensures { bytes.now ≡ numbers_in 4 result }
+    ensures numbers { bytes.now ≡ numbers_in 4 result }
+    ensures fit { FitAll 4 result }
 {
     let mut counts = [0; 5];
     LittleEndian::read_u32_into(bytes, &mut counts);
@@ -56,7 +57,8 @@ pub(crate) fn read_numbers(bytes: &[u8]) -> [u32; 5]
 /// The fourteen parameters.
 pub(crate) fn read_parameters(bytes: &[u8]) -> [u64; 14]
     requires { length bytes.now ≡ 112 }
-    ensures { bytes.now ≡ numbers_in 8 result }
+    ensures numbers { bytes.now ≡ numbers_in 8 result }
+    ensures fit { FitAll 8 result }
 {
     let mut parameters = [0; 14];
     LittleEndian::read_u64_into(bytes, &mut parameters);

@@ -1,9 +1,9 @@
 // The entries of statements, sixteen bytes each.
-ghost use Rattle.std.specs.Prelude.{◌≡◌, ◌++◌, ◌*◌, List, length, map, MatchResult, IfOk, MatchOption};
+ghost use Rattle.std.specs.Prelude.{◌≡◌, ◌++◌, ◌*◌, ◌^◌, ◌<◌, List, length, map, MatchResult, IfOk, MatchOption};
 ghost use Rattle.std.specs.List.{flat_map};
 ghost use Rattle.image_file.specs.Image.{StatementEntry, entry_of};
 ghost use Rattle.image_file.specs.Spelling.{entry_part};
-ghost use Rattle.image_file.specs.Reading.{StopsAt};
+ghost use Rattle.image_file.specs.Reading.{FitEntries, StopsAt};
 
 use crate::numbers::{bytes_16, bytes_32, bytes_64, number_16, number_32, number_64};
 use crate::stop::ImageStop;
@@ -15,12 +15,18 @@ pub(crate) const ENTRY_BYTES: usize = 16;
 
 // Where an entry's parts begin: the place, the card, the number of the macro, and zeros.
 const PLACE_AT: usize = 0;
+
 const CARD_AT: usize = 8;
+
 const NAME_AT: usize = 12;
+
 const ZEROS_AT: usize = 14;
 
 /// Appends the entries of statements.
-pub(crate) fn put_entries(out: &mut Vec<u8>, entries: &[(u64, u32, Macro)]) -> Result<(), AllocError>
+pub(crate) fn put_entries(
+    out: &mut Vec<u8>,
+    entries: &[(u64, u32, Macro)],
+) -> Result<(), AllocError>
     ensures { IfOk result (λ _. out.new.items ≡ out.old.items ++ flat_map entry_part (map entry_of entries.now)) }
 {
     for &(place, card, name) in entries {
@@ -48,7 +54,7 @@ pub(crate) fn read_entries(
 ) -> Result<Vec<(u64, u32, Macro)>, ImageStop>
     requires { length bytes.now ≡ 16 * count }
     ensures { MatchResult result
-        (λ v. (bytes.now ≡ flat_map entry_part (map entry_of v.items)) × (length v.items ≡ count))
+        (λ v. (bytes.now ≡ flat_map entry_part (map entry_of v.items)) × (length v.items ≡ count) × FitEntries (map entry_of v.items))
         (λ e. StopsAt e 6 ((es : List StatementEntry) → ¬ (bytes.now ≡ flat_map entry_part es))) }
 {
     let mut entries = Vec::new(alloc);
@@ -67,7 +73,7 @@ pub(crate) fn read_entries(
 fn read_entry(bytes: &[u8]) -> Option<(u64, u32, Macro)>
     requires { length bytes.now ≡ 16 }
     ensures { MatchOption result ((e : StatementEntry) → ¬ (bytes.now ≡ entry_part e))
-        (λ t. bytes.now ≡ entry_part (entry_of t)) }
+        (λ t. (bytes.now ≡ entry_part (entry_of t)) × (t.0 < 256 ^ 8) × (t.1 < 256 ^ 4)) }
 {
     let Some(name) = macro_at(number_16(&bytes[NAME_AT..ZEROS_AT])) else {
         return None;

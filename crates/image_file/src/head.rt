@@ -1,10 +1,10 @@
 // The parts by which the others are read.
-ghost use Rattle.std.specs.Prelude.{◌≡◌, ◌++◌, List, ℕ, MatchResult};
+ghost use Rattle.std.specs.Prelude.{◌≡◌, ◌++◌, [], List, ℕ, MatchResult};
 ghost use Rattle.layout_params.specs.Parameters as parameters;
 ghost use Rattle.layout_params.specs.Parameters.{AreLegalSettings};
-
+ghost use Rattle.image_file.specs.Grammar.{Stand, head_parts, IsRefused};
+ghost use Rattle.image_file.specs.Image.{image_of};
 ghost use Rattle.image_file.specs.Reading.{StopsAt};
-ghost use Rattle.image_file.specs.declared.counts.Counts.{Counts};
 ghost use Rattle.image_file.specs.Spelling.{mark_part, version_part, settings_part, counts_part, counts_list, FitAll};
 
 use crate::counts::Counts;
@@ -14,8 +14,24 @@ use crate::stop::ImageStop;
 use crate::version::VERSION;
 use layout_params::Settings;
 
+/// The settings, the counts, and the bytes after them.
+pub(crate) fn read_head(bytes: &[u8]) -> Result<(Settings, Counts, &[u8]), ImageStop>
+    ensures { MatchResult result
+        (λ r. Stand head_parts r.1 (image_of r.0 [] [] [] [] [] []) bytes.now r.2.now)
+        (λ e. IsRefused e bytes.now) }
+{
+    let rest = read_mark(bytes)?;
+    let rest = read_version(rest)?;
+    let (settings, rest) = read_settings(rest)?;
+    let (counts, rest) = read_counts(rest)?;
+    if !counts.are_within(&settings) {
+        return Err(ImageStop::Part(5));
+    }
+    Ok((settings, counts, rest))
+}
+
 /// The bytes after the first eight.
-pub(crate) fn read_mark(bytes: &[u8]) -> Result<&[u8], ImageStop>
+fn read_mark(bytes: &[u8]) -> Result<&[u8], ImageStop>
     ensures { MatchResult result (λ rest. bytes.now ≡ mark_part ++ rest.now)
         (λ e. StopsAt e 1 ((rest : List ℕ) → ¬ (bytes.now ≡ mark_part ++ rest))) }
 {
@@ -27,7 +43,7 @@ pub(crate) fn read_mark(bytes: &[u8]) -> Result<&[u8], ImageStop>
 }
 
 /// The bytes after the version.
-pub(crate) fn read_version(bytes: &[u8]) -> Result<&[u8], ImageStop>
+fn read_version(bytes: &[u8]) -> Result<&[u8], ImageStop>
     ensures { MatchResult result (λ rest. bytes.now ≡ version_part ++ rest.now)
         (λ e. StopsAt e 2 ((rest : List ℕ) → ¬ (bytes.now ≡ version_part ++ rest))) }
 {
@@ -39,7 +55,7 @@ pub(crate) fn read_version(bytes: &[u8]) -> Result<&[u8], ImageStop>
 }
 
 /// The settings, and the bytes after them.
-pub(crate) fn read_settings(bytes: &[u8]) -> Result<(Settings, &[u8]), ImageStop>
+fn read_settings(bytes: &[u8]) -> Result<(Settings, &[u8]), ImageStop>
     ensures { MatchResult result
         (λ r. (bytes.now ≡ settings_part r.0 ++ r.1.now) × AreLegalSettings r.0)
         (λ e. StopsAt e 3 ((s : parameters.Settings) (rest : List ℕ) → bytes.now ≡ settings_part s ++ rest → ¬ AreLegalSettings s)) }
@@ -55,7 +71,7 @@ pub(crate) fn read_settings(bytes: &[u8]) -> Result<(Settings, &[u8]), ImageStop
 }
 
 /// The counts, and the bytes after them.
-pub(crate) fn read_counts(bytes: &[u8]) -> Result<(Counts, &[u8]), ImageStop>
+fn read_counts(bytes: &[u8]) -> Result<(Counts, &[u8]), ImageStop>
     ensures { MatchResult result
         (λ r. (bytes.now ≡ counts_part r.0 ++ r.1.now) × FitAll 4 (counts_list r.0))
         (λ e. StopsAt e 4 ((c : Counts) (rest : List ℕ) → ¬ (bytes.now ≡ counts_part c ++ rest))) }

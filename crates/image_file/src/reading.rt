@@ -6,7 +6,7 @@ ghost use Rattle.image_file.specs.Reading.{StopsAt};
 ghost use Rattle.image_file.specs.Spelling.{spelling};
 
 use crate::body::read_body;
-use crate::head::{read_counts, read_mark, read_settings, read_version};
+use crate::head::read_head;
 use crate::image::Image;
 use crate::stop::ImageStop;
 use std::alloc::Global;
@@ -19,12 +19,6 @@ pub fn load_image(alloc: Global, bytes: &[u8]) -> Result<Image, ImageStop>
         → MatchResult result (λ j. j ≡ i) (λ e. e ≡ ImageStop.Memory) }
     ensures refused { (k : ℕ) → IsFirstWrong k bytes.now → IsErrAnd result (λ e. StopsAt e k (IsFirstWrong k bytes.now)) }
 {
-    let rest = read_mark(bytes)?;
-    let rest = read_version(rest)?;
-    let (settings, rest) = read_settings(rest)?;
-    let (counts, rest) = read_counts(rest)?;
-    if !counts.are_within(&settings) {
-        return Err(ImageStop::Part(5));
-    }
+    let (settings, counts, rest) = read_head(bytes)?;
     read_body(alloc, settings, &counts, rest)
 }

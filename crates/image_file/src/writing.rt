@@ -1,6 +1,5 @@
 // The bytes of an image file. All numbers are little-endian.
 ghost use Rattle.std.specs.Prelude.{◌≡◌, ◌++◌, IfOk};
-ghost use Rattle.image_file.specs.Grammar.{IsImageFile};
 ghost use Rattle.image_file.specs.Spelling.{spelling, mark_part, version_part, settings_part, counts_of, counts_part};
 ghost use Rattle.image_file.specs.Version.{kinds_part};
 
@@ -15,8 +14,7 @@ use std::alloc::{AllocError, Global};
 /// The bytes of an image file.
 #[tactic(auto, unfolding(crate::specs::Spelling::spelling))]
 pub fn write_image(alloc: Global, image: &Image) -> Result<Vec<u8>, AllocError>
-    ensures bytes { IfOk result (λ bytes. bytes.items ≡ spelling image.now) }
-    ensures file { IfOk result (λ bytes. IsImageFile image.now bytes.items) }
+    ensures { IfOk result (λ bytes. bytes.items ≡ spelling image.now) }
 {
     let mut out = Vec::new(alloc);
     put_heading(&mut out)?;
