@@ -40,7 +40,8 @@ use Rattle.sil_model.specs.Costs.{cost}
 use Rattle.sil_model.specs.Valid.{IsValid}
 use Rattle.sil_model.specs.Prints.{writes_records}
 use Rattle.image_file.specs.Image.{Image}
-use Rattle.rv_emit.specs.Parts.{IsImageOf, kind_of}
+use Rattle.sil_model.specs.CellWords.{kind_of}
+use Rattle.rv_emit.specs.Parts.{IsImageOf}
 use Rattle.rv_emulate.specs.declared.end.CpuEnd.TheVariants.{Undefined, Budget}
 use Rattle.rv_emulate.specs.Memory.{Memory}
 use Rattle.rv_emulate.specs.States.{State, Outcome, On, Ended}

@@ -2,7 +2,7 @@
 use Rattle.std.proofs.Common.{◌≡◌, ℕ, zero, suc, ◌+◌, ◌-◌, ◌*◌, ◌/◌, ◌%◌, ◌^◌, ◌<◌, ◌≤◌, List, [], ◌∷◌, length, Some, None, refl, sym, ap, subst, ◌∙◌, arith}
 use Rattle.std.proofs.lemmas.Option.{slice_get_within}
 use Rattle.std.specs.Int.{w64, cast_unsigned}
-use Rattle.std.specs.Prelude.{ℤ, pos, slice_get}
+use Rattle.std.specs.Prelude.{ℤ, pos, slice_get, slice_set}
 use Rattle.sil_base.specs.Bytes.{number, piece}
 use Rattle.sil_base.proofs.Numbers.{piece-piece}
 use Rattle.layout_params.specs.declared.cell.Cell.{Cell}
@@ -11,8 +11,8 @@ use Rattle.layout_params.specs.declared.cell.Descr.{Descr as Descriptor}
 use Rattle.layout_params.specs.Sizes.{packed_16}
 use Rattle.sil_base.specs.declared.places.TheConstants.{FIRST_CELL, FIRST_KIND}
 use Rattle.sil_model.specs.Memory as model
-use Rattle.sil_model.specs.Access.{◌>>=◌, byte_place, cell_number, with_cell, cell_at, set_cell_at, descr_of, descr_at, set_descr_at, a_at, set_a_at}
-use Rattle.rv_emit.specs.Parts.{kind_of}
+use Rattle.sil_model.specs.Access.{◌>>=◌, byte_place, cell_number, with_cell, with_cells, cell_at, put_cell, descr_of, descr_at, set_descr_at, a_at, set_a_at}
+use Rattle.sil_model.specs.CellWords.{kind_of}
 use Rattle.rv_emulate.specs.Memory.{Memory, loaded}
 use Rattle.rv_emit.specs.Represents.{PackedCells}
 use Rattle.rv_emit.specs.Code.{kind_place}
@@ -46,23 +46,23 @@ unfolding descr_at
 descr_none m i chars size is = ap (λ o. o >>= descr_of) (cell_is m i (Chars chars) size is)
 
 -- a whole write to a static cell
+put_cell_is : (m : model.Memory) (i : ℕ) (cell : Cell) → m.limits.cell_size ≡ 16 → i < length m.cells → put_cell m (pos (cell_address i)) cell ≡ Some (slice_set m.cells i cell)
+unfolding put_cell
+put_cell_is m i cell size lt = ap (λ o. o >>= (λ j. Some (slice_set m.cells j cell))) (number_is m i size lt)
+
 pub set_descr_is : (m : model.Memory) (i : ℕ) (d : Descriptor) → m.limits.cell_size ≡ 16 → i < length m.cells → set_descr_at m (pos (cell_address i)) d ≡ Some (with_cell m i (Descr d))
-unfolding set_descr_at set_cell_at
-set_descr_is m i d size lt = ap (λ o. o >>= (λ j. Some (with_cell m j (Descr d)))) (number_is m i size lt)
+set_descr_is m i d size lt = ap (λ o. with_cells m o) (put_cell_is m i (Descr d) size lt)
 
 -- a write of the A field
 pub set_a_is : (m : model.Memory) (i : ℕ) (d : Descriptor) (a : ℤ) → m.limits.cell_size ≡ 16 → slice_get m.cells i ≡ Some (Descr d) → set_a_at m (pos (cell_address i)) a ≡ Some (with_cell m i (Descr (record d { a = a })))
-unfolding set_a_at
 set_a_is m i d a size is =
     ap (λ o. o >>= (λ e. set_descr_at m (pos (cell_address i)) (record e { a = a }))) (descr_is m i d size is) ∙ set_descr_is m i (record d { a = a }) size (slice_get_within m.cells i (Descr d) is)
 
 pub a_is : (m : model.Memory) (i : ℕ) (d : Descriptor) → m.limits.cell_size ≡ 16 → slice_get m.cells i ≡ Some (Descr d) → a_at m (pos (cell_address i)) ≡ Some d.a
-unfolding a_at descr_at
-a_is m i d size is = ap (λ o. (o >>= descr_of) >>= (λ e. Some e.a)) (cell_is m i (Descr d) size is)
+a_is m i d size is = ap (λ o. o >>= (λ e. Some e.a)) (descr_is m i d size is)
 
 pub a_none : (m : model.Memory) (i : ℕ) (chars : List ℕ) → m.limits.cell_size ≡ 16 → slice_get m.cells i ≡ Some (Chars chars) → a_at m (pos (cell_address i)) ≡ None
-unfolding a_at descr_at
-a_none m i chars size is = ap (λ o. (o >>= descr_of) >>= (λ e. Some e.a)) (cell_is m i (Chars chars) size is)
+a_none m i chars size is = ap (λ o. o >>= (λ e. Some e.a)) (descr_none m i chars size is)
 
 pub some_cell : (cells : List Cell) (i : ℕ) → i < length cells → (cell : Cell) × (slice_get cells i ≡ Some cell)
 some_cell [] i h = absurd (omega arith)

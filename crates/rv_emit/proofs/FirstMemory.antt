@@ -19,7 +19,8 @@ use Rattle.sil_model.specs.WellFormed.{IsTable}
 use Rattle.sil_model.specs.Start.{limits_of, zero_cell}
 use Rattle.sil_model.specs.declared.table.Entry.{Entry}
 use Rattle.sil_model.specs.declared.table.Table.{Table}
-use Rattle.rv_emit.specs.Parts.{kind_of, table_entry_part, table_part, action_number, put_flag, next_table, put_value}
+use Rattle.sil_model.specs.CellWords.{kind_of}
+use Rattle.rv_emit.specs.Parts.{table_entry_part, table_part, action_number, put_flag, next_table, put_value}
 use Rattle.rv_emulate.specs.States.{padded}
 
 -- ---- lists of pieces of one length

@@ -12,10 +12,10 @@ use Rattle.sil_model.specs.declared.program.Arg.TheVariants.{Place, Number}
 use Rattle.sil_model.specs.declared.program.Program.{Program}
 use Rattle.sil_model.specs.declared.program.Statement.{Statement}
 use Rattle.sil_model.specs.Access.{◌>>=◌, with_cell, a_at, set_a_at}
-use Rattle.sil_model.specs.Clauses.{incra}
+use Rattle.sil_model.specs.DescriptorClauses.{incra}
 use Rattle.sil_model.specs.Effects.{with_memory, onward}
 use Rattle.sil_model.specs.Table.{clause}
-use Rattle.sil_model.specs.Integers.{◌⊞◌}
+use Rattle.sil_model.specs.Integers.{◌⊞◌, wrapped_sum}
 use Rattle.sil_model.specs.States as machine
 use Rattle.sil_model.specs.States.{Goes, Ends}
 use Rattle.sil_model.specs.Machine.{make_step, settle}
@@ -51,6 +51,7 @@ goes_as program parameters card i n d m size e =
 
 -- the sum of 64 bits is the machine's
 sum_same : (a n : ℤ) → FitsSigned w64 a → FitsSigned w64 n → sum64 (cast_unsigned w64 a) (cast_unsigned w64 n) ≡ cast_unsigned w64 (a ⊞ n)
+unfolding wrapped_sum
 sum_same a n h k = grind arith
 
 sum_small : (x n : ℕ) → sum64 x n < 2 ^ 64

@@ -15,7 +15,7 @@ use Rattle.sil_model.specs.Access.{with_cell}
 use Rattle.sil_model.specs.Machine.{at_next}
 use Rattle.sil_model.specs.States as machine
 use Rattle.image_file.specs.Image.{Image}
-use Rattle.rv_emit.specs.Parts.{kind_of}
+use Rattle.sil_model.specs.CellWords.{kind_of}
 use Rattle.sil_model.specs.Memory as machine_memory
 use Rattle.rv_emulate.specs.Memory.{Memory}
 use Rattle.rv_emulate.specs.States.{State}

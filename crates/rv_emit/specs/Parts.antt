@@ -4,20 +4,15 @@ use Rattle.std.specs.List.{flat_map}
 use Rattle.std.specs.Int.{w64, cast_unsigned}
 use Rattle.sil_base.specs.Bytes.{low_bytes}
 use Rattle.layout_params.specs.declared.cell.Cell.{Cell}
-use Rattle.layout_params.specs.declared.cell.Cell.TheVariants.{Descr, Chars}
 use Rattle.layout_params.specs.Packing.{packing}
 use Rattle.layout_params.specs.Parameters.{Settings}
+use Rattle.sil_model.specs.CellWords.{kind_of}
 use Rattle.sil_model.specs.declared.program.Program.{Program}
 use Rattle.sil_model.specs.declared.table.Action.{Action}
 use Rattle.sil_model.specs.declared.table.Action.TheVariants.{Contin, Goto, Stop, Stopsh, Error}
 use Rattle.sil_model.specs.declared.table.Entry.{Entry}
 use Rattle.sil_model.specs.declared.table.Table.{Table}
 use Rattle.image_file.specs.Image.{Image}
-
--- the byte that tells what a cell is
-abbrev pub kind_of : Cell → ℕ
-kind_of (Descr d) = 0
-kind_of (Chars chars) = 1
 
 abbrev pub action_number : Action → ℕ
 action_number Contin = 0

@@ -8,7 +8,8 @@ use Rattle.layout_params.specs.Sizes.{Sizes}
 use Rattle.layout_params.specs.Packing.{IsPacked}
 use Rattle.layout_params.specs.Parameters.{Settings}
 use Rattle.sil_model.specs.States as machine
-use Rattle.rv_emit.specs.Parts.{kind_of, table_part}
+use Rattle.sil_model.specs.CellWords.{kind_of}
+use Rattle.rv_emit.specs.Parts.{table_part}
 use Rattle.sil_base.specs.declared.limits.TheConstants.{SCRATCH_BYTES}
 use Rattle.rv_emulate.specs.Memory.{Memory}
 use Rattle.rv_emulate.specs.States.{State, register, steps_left}

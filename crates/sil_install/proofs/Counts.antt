@@ -10,7 +10,8 @@ use Rattle.layout_params.specs.Areas.{all_cells}
 use Rattle.sil_model.specs.Costs.{cost, weight, weight_limit}
 use Rattle.sil_model.specs.Valid.{IsValid, IsSteady}
 use Rattle.image_file.specs.Image.{Image}
-use Rattle.rv_emit.specs.Parts.{IsImageOf, kind_of}
+use Rattle.sil_model.specs.CellWords.{kind_of}
+use Rattle.rv_emit.specs.Parts.{IsImageOf}
 use Rattle.rv_emulate.specs.States.{cell_total}
 
 pub less : (left slot more b : ℕ) → suc left * slot + 2000 ≤ b → suc more ≤ slot → left * slot + 2000 ≤ b - suc more

@@ -2,7 +2,7 @@
 ghost use Rattle.std.specs.Prelude.{◌≡◌, ◌<◌, ◌^◌, length, map, All, IfOk};
 ghost use Rattle.std.specs.List.{flat_map};
 ghost use Rattle.layout_params.specs.Packing.{FitsFields, packing};
-ghost use Rattle.rv_emit.specs.Parts.{kind_of};
+ghost use Rattle.sil_model.specs.CellWords.{kind_of};
 
 use layout_params::{Cell, Layout, pack_cell};
 use sil_macros::Macro;

@@ -1,8 +1,8 @@
 -- What a clause on memory leaves has the same shape, and its cells fit.
-use Rattle.std.proofs.Common.{◌≡◌, ℕ, ◌≤◌, List, Option, Some, None, ℤ, refl, subst, arith, rules}
+use Rattle.std.proofs.Common.{◌≡◌, ℕ, ◌≤◌, List, Option, Some, None, ℤ, pos, negsuc, refl, subst, arith, rules}
 use Rattle.std.proofs.Math.ListN.{length-set}
 use Rattle.std.proofs.Math.Facts.{sfits_to_z}
-use Rattle.std.specs.Prelude.{slice_get, All, FitsSigned}
+use Rattle.std.specs.Prelude.{slice_get, slice_set, length, All, FitsSigned}
 use Rattle.std.specs.Int.{w64}
 use Rattle.std.proofs.lemmas.Option.{get_or_from_slice_get, slice_get_within, same_Some}
 use Rattle.std.proofs.lemmas.List.Elements.{All-set}
@@ -12,9 +12,9 @@ use Rattle.layout_params.specs.declared.cell.Descr.{Descr as Descriptor}
 use Rattle.sil_model.specs.declared.program.Flow.{Flow}
 use Rattle.sil_model.specs.declared.program.Flow.TheVariants.{To}
 use Rattle.sil_model.specs.Memory.{Memory, IsMemory, SameShape, FitsCell, FitsDescr}
-use Rattle.sil_model.specs.Access.{◌>>=◌, cell_number, cell_at, set_cell_at, descr_of, descr_at, set_descr_at, set_a_at, with_cell}
+use Rattle.sil_model.specs.Access.{◌>>=◌, cell_number, cell_at, put_cell, set_cell_at, with_cells, descr_of, descr_at, set_descr_at, set_whole_at, set_a_at, set_f_at, set_v_at}
 use Rattle.sil_model.specs.Effects.{MemoryEffect, onward}
-use Rattle.sil_model.specs.Integers.{◌⊞◌}
+use Rattle.sil_model.specs.Integers.{◌⊞◌, wrapped_sum, within}
 
 -- the later memory has the shape of the first, and its cells fit
 pub record Follows (m m' : Memory) : Type 0 where
@@ -77,26 +77,67 @@ unfolding Writes
 writes_read m None f h = tt
 writes_read m (Some a) f h = h a refl
 
-writes_cell : (m : Memory) (o : Option ℕ) (cell : Cell) → IsMemory m → FitsCell m.limits cell → Writes m (o >>= (λ i. Some (with_cell m i cell)))
-unfolding Writes
-writes_cell m None cell h fits = tt
-writes_cell m (Some i) cell h fits = record {
-  shape = record { limits = refl; count = length-set m.cells i cell };
-  is_memory = record { limits = h.limits; count = omega (arith, h.count, length-set m.cells i cell); fit = All-set (FitsCell m.limits) m.cells i cell fits h.fit };
+-- cells that are as many and fit
+unfoldable pub Puts : Memory → Option (List Cell) → Type 0
+Puts m None = Unit {0}
+Puts m (Some cells) = (length cells ≡ length m.cells) × All (FitsCell m.limits) cells
+
+pub puts_none : (m : Memory) → Puts m None
+unfolding Puts
+puts_none m = tt
+
+pub puts_read : {A : Type 0} (m : Memory) (o : Option A) (f : A → Option (List Cell)) → ((a : A) → o ≡ Some a → Puts m (f a)) → Puts m (o >>= f)
+unfolding Puts
+puts_read m None f h = tt
+puts_read m (Some a) f h = h a refl
+
+pub puts_set : (m : Memory) (i : ℕ) (cell : Cell) → IsMemory m → FitsCell m.limits cell → Puts m (Some (slice_set m.cells i cell))
+unfolding Puts
+puts_set m i cell h fits = (length-set m.cells i cell, All-set (FitsCell m.limits) m.cells i cell fits h.fit)
+
+pub writes_cells : (m : Memory) (o : Option (List Cell)) → IsMemory m → Puts m o → Writes m (with_cells m o)
+unfolding Writes Puts
+writes_cells m None h puts = tt
+writes_cells m (Some cells) h puts = record {
+  shape = record { limits = refl; count = puts.0 };
+  is_memory = record { limits = h.limits; count = omega (arith, h.count, puts.0); fit = puts.1 };
 }
 
+puts_cell : (m : Memory) (at : ℤ) (cell : Cell) → IsMemory m → FitsCell m.limits cell → Puts m (put_cell m at cell)
+unfolding put_cell
+puts_cell m at cell h fits = puts_read m (cell_number m at) _ (λ i e. puts_set m i cell h fits)
+
 pub writes_set_cell : (m : Memory) (at : ℤ) (cell : Cell) → IsMemory m → FitsCell m.limits cell → Writes m (set_cell_at m at cell)
-unfolding set_cell_at
-writes_set_cell m at cell h fits = writes_cell m (cell_number m at) cell h fits
+writes_set_cell m at cell h fits = writes_cells m (put_cell m at cell) h (puts_cell m at cell h fits)
 
 pub writes_set_descr : (m : Memory) (at : ℤ) (d : Descriptor) → IsMemory m → FitsDescr m.limits d → Writes m (set_descr_at m at d)
-unfolding set_descr_at
 writes_set_descr m at d h fits = writes_set_cell m at (Descr d) h fits
 
 pub writes_set_a : (m : Memory) (at a : ℤ) → IsMemory m → FitsSigned w64 a → Writes m (set_a_at m at a)
-unfolding set_a_at
 writes_set_a m at a h fits = writes_read m _ _ (λ d e. let was = fits_descr_at m at d h e in writes_set_descr m at (record d { a = a }) h (fits, was.1, was.2))
+
+-- an integer that a limit allows
+pub within_limit : (limit : ℕ) (x : ℤ) (n : ℕ) → within limit x ≡ Some n → (n ≤ limit) × (x ≡ pos n)
+unfolding within
+within_limit limit (pos x) n is = grind (arith, is)
+within_limit limit (negsuc x) n is = cc
+
+pub writes_set_f : (m : Memory) (at flags : ℤ) → IsMemory m → Writes m (set_f_at m at flags)
+writes_set_f m at flags h =
+    writes_read m _ _ (λ d e. let was = fits_descr_at m at d h e in
+    writes_read m _ _ (λ f is. writes_set_descr m at (record d { f = f }) h (was.0, (within_limit m.limits.flag_limit flags f is).0, was.2)))
+
+pub writes_set_v : (m : Memory) (at value : ℤ) → IsMemory m → Writes m (set_v_at m at value)
+writes_set_v m at value h =
+    writes_read m _ _ (λ d e. let was = fits_descr_at m at d h e in
+    writes_read m _ _ (λ v is. writes_set_descr m at (record d { v = v }) h (was.0, was.1, (within_limit m.limits.value_limit value v is).0)))
+
+pub writes_set_whole : (m : Memory) (at a flags value : ℤ) → IsMemory m → FitsSigned w64 a → Writes m (set_whole_at m at a flags value)
+writes_set_whole m at a flags value h fits =
+    writes_read m _ _ (λ f is.
+    writes_read m _ _ (λ v also. writes_set_descr m at (record { a = a; f = f; v = v }) h (fits, (within_limit m.limits.flag_limit flags f is).0, (within_limit m.limits.value_limit value v also).0)))
 
 -- a sum that wraps fits
 pub sum_fits : (x y : ℤ) → FitsSigned w64 (x ⊞ y)
+unfolding wrapped_sum
 sum_fits x y = sfits_to_z (search rules)

@@ -1,6 +1,12 @@
 pub mod Fits
 pub mod Keeps
+pub mod Places
+pub mod Reading
+pub mod Characters
+pub mod ReadingChars
+pub mod AccessProofs
 pub mod Leaves
+pub mod Operands
 pub mod ClauseLaws
 pub mod Runs
 pub mod Steady

@@ -1,5 +1,5 @@
 -- A well formed program runs through valid states alone.
-use Rattle.std.proofs.Common.{◌≡◌, ℕ, zero, suc, ◌+◌, ◌-◌, ◌*◌, ◌^◌, ◌≤◌, ◌<◌, ◌⊎◌, List, [], ◌∷◌, length, replicate, Some, None, refl, sym, subst, arith, length-append}
+use Rattle.std.proofs.Common.{◌≡◌, ℕ, zero, suc, ◌+◌, ◌-◌, ◌*◌, ◌%◌, ◌^◌, ◌≤◌, ◌<◌, ◌⊎◌, List, [], ◌∷◌, length, replicate, Some, None, refl, sym, subst, arith, length-append}
 use Rattle.std.proofs.Math.IntN.{+ℤ_idr}
 use Rattle.std.specs.Prelude.{slice_get, All, IsTrue, Bool, true, ◌&&◌, nat_le}
 use Rattle.std.specs.List.{list_all}
@@ -38,6 +38,7 @@ use Rattle.sil_model.proofs.Leaves.{IsHere, IsSound, IsRoomy, Leaves}
 record Widths (s : Sizes) : Type 0 where
   pub least : 16 ≤ s.descr
   pub most : s.descr ≤ 64
+  pub words : s.descr % 8 ≡ 0
   pub flags : (s.f_len ≡ 1) ⊎ (s.f_len ≡ 2) ⊎ (s.f_len ≡ 4)
 
 widths : (s : Sizes) → IsTrue (widths_fit s) → Widths s
@@ -53,7 +54,7 @@ flags_fit n h = grind arith
 pub limits_are : (settings : Settings) → IsTrue (is_legal settings.sizes) → AreLimits (limits_of settings)
 limits_are settings h =
     let w : Widths settings.sizes = widths settings.sizes (first_part (widths_fit settings.sizes) (fields_fit settings.sizes) (fields_apart settings.sizes) h) in
-    record { least = w.least; most = w.most; flags = flags_fit settings.sizes.f_len w.flags; values = omega arith }
+    record { least = w.least; most = w.most; words = w.words; flags = flags_fit settings.sizes.f_len w.flags; values = omega arith }
 
 cell_count : (settings : Settings) (statics : List Cell) → length (first_memory settings statics).cells ≡ all_cells settings (length statics)
 cell_count settings statics = omega (arith, length-append statics (replicate (blank_cells settings) zero_cell), length-replicate {A = Cell} (blank_cells settings) zero_cell)

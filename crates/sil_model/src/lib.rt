@@ -5,6 +5,7 @@
 mod built;
 mod cells;
 mod end;
+mod fields;
 mod laws;
 mod limits;
 mod program;
@@ -13,7 +14,8 @@ mod table;
 pub use built::{BUILT, is_built};
 pub use cells::Cells;
 pub use end::End;
-pub use laws::{law_of_runs, law_of_steps, law_of_units};
+pub use fields::{a_field, f_field, set_a_field, set_f_field, set_v_field, v_field};
+pub use laws::{law_of_access, law_of_runs, law_of_steps, law_of_units};
 pub use limits::{Limits, limits_of};
-pub use program::{Arg, Flow, Program, Specials, Statement, number, place};
+pub use program::{Arg, Flow, Program, Specials, Statement, flag, goto, number, place};
 pub use table::{Action, Entry, Table};

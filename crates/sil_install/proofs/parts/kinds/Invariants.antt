@@ -1,6 +1,6 @@
 use Rattle.std.proofs.Common.{◌≡◌, take}
 use Rattle.std.specs.Prelude.{map}
-use Rattle.rv_emit.specs.Parts.{kind_of}
+use Rattle.sil_model.specs.CellWords.{kind_of}
 use Rattle.sil_install.proofs.parts.kinds.Given as goal
 
 abbrev pub invariant-loop-cell : goal.invariant-loop-cell

@@ -1,0 +1,10 @@
+pub mod Ways
+pub mod Registers
+pub mod Effects
+pub mod Straight
+pub mod Branches
+pub mod Leaps
+pub mod Reaching
+pub mod Numbers
+pub mod JumpsIf
+pub mod AreInstrs

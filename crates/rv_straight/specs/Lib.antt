@@ -1,0 +1,9 @@
+pub mod Ways
+pub mod Registers
+pub mod Effects
+pub mod Straight
+pub mod Code
+pub mod Constants
+pub mod Jumps
+pub mod Reaching
+pub mod Laws

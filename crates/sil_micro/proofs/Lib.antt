@@ -1,0 +1,10 @@
+pub mod Registers
+pub mod Moved
+pub mod Leading
+pub mod Ways
+pub mod Meetings
+pub mod Parts
+pub mod Placing
+pub mod Making
+pub mod Fields
+pub mod Weights

@@ -1,0 +1,12 @@
+pub mod Words
+pub mod TableWords
+pub mod States
+pub mod UnitCalls
+pub mod Operations
+pub mod Forms
+pub mod Pieces
+pub mod Codes
+pub mod Runs
+pub mod Ways
+pub mod Laws
+pub mod Expands
