@@ -8,3 +8,4 @@ mod source;
 mod texts;
 
 pub use assembly::{DataStop, assemble};
+pub use fields::first_text;
