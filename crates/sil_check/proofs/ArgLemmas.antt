@@ -92,7 +92,7 @@ IsMade b place a = IsTrue (fits_slot place a) × IsWithin b a
 
 null_made : (b : Bounds) (k : Kind) → IsMade b (record { kind = k; optional = true }) (null_arg k)
 null_made b kind.Goto = (refl, tt)
-null_made b kind.Gotos = (refl, omega arith, All-nil (IsStatement b))
+null_made b kind.Gotos = (refl, (omega arith, All-nil (IsStatement b)))
 null_made b _ = (refl, tt)
 
 null_is : (b : Bounds) (k : Kind) (optional : Bool) (a : Arg) → cond optional (Some (null_arg k)) None ≡ Some a → IsMade b (record { kind = k; optional = optional }) a
@@ -112,28 +112,28 @@ value_is b scope s kind.Text optional terms a h = let no : ⊥ = cc in absurd no
 value_is b scope s kind.Format optional terms a h = let (text, found, is) = mapped arg.Format (option_and_then scope.texts (format_at scope.measure terms)) a h in rw is (refl, s.texts terms text found)
 value_is b scope s kind.Descrs optional terms a h =
     let (at, found, is) = mapped (λ at. arg.Places (at ∷ [])) (scope.measure.values terms) a h in
-    rw is (refl, omega arith, All-cons (FitsSigned w64) at [] (s.values terms at found) (All-nil (FitsSigned w64)))
+    rw is (refl, (omega arith, All-cons (FitsSigned w64) at [] (s.values terms at found) (All-nil (FitsSigned w64))))
 value_is b scope s kind.Specs optional terms a h =
     let (at, found, is) = mapped (λ at. arg.Places (at ∷ [])) (scope.measure.values terms) a h in
-    rw is (refl, omega arith, All-cons (FitsSigned w64) at [] (s.values terms at found) (All-nil (FitsSigned w64)))
+    rw is (refl, (omega arith, All-cons (FitsSigned w64) at [] (s.values terms at found) (All-nil (FitsSigned w64))))
 value_is b scope s kind.Gotos optional terms a h =
     let (k, found, is) = mapped (λ k. arg.Gotos (Some k ∷ [])) (location_of scope.measure terms) a h in
-    rw is (refl, omega arith, All-cons (IsStatement b) (Some k) [] (s.locations terms k found) (All-nil (IsStatement b)))
+    rw is (refl, (omega arith, All-cons (IsStatement b) (Some k) [] (s.locations terms k found) (All-nil (IsStatement b))))
 value_is b scope s kind.Free optional terms a h = let is : a ≡ arg.Absent = cc in rw is (refl, tt)
 
 list_is : (b : Bounds) (scope : Scope) → IsScope b scope → (k : Kind) (optional : Bool) (items : List (Option (List Term))) (a : Arg) → length items ≤ 40 → list_arg scope k items ≡ Some a → IsMade b (record { kind = k; optional = optional }) a
 list_is b scope s kind.Descrs optional items a short h =
     let (ats, found, is) = mapped arg.Places (places_in scope.measure items) a h in
     let (count, fits) = places_fit b scope s items ats found in
-    rw is (refl, omega (arith, count, short), fits)
+    rw is (refl, (omega (arith, count, short), fits))
 list_is b scope s kind.Specs optional items a short h =
     let (ats, found, is) = mapped arg.Places (places_in scope.measure items) a h in
     let (count, fits) = places_fit b scope s items ats found in
-    rw is (refl, omega (arith, count, short), fits)
+    rw is (refl, (omega (arith, count, short), fits))
 list_is b scope s kind.Gotos optional items a short h =
     let (locations, found, is) = mapped arg.Gotos (locations_in scope.measure items) a h in
     let (count, fits) = locations_fit b scope s items locations found in
-    rw is (refl, omega (arith, count, short), fits)
+    rw is (refl, (omega (arith, count, short), fits))
 list_is b scope s _ optional items a short h = let no : ⊥ = cc in absurd no
 
 short_list : (items : List (Option (List Term))) → operand_keeps card_limits (Listed items) ≡ true → length items ≤ 40

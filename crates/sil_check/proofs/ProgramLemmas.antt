@@ -181,7 +181,7 @@ no_rule : (letter card : ℕ) (o : Option ℕ) (faults : List Fault) → with_fa
 no_rule letter card None faults h = (refl, h)
 no_rule letter card (Some rule) faults h = let no : ⊥ = cc in absurd no
 
-needed_of : (b : Bool) → cond b None (Some 1) ≡ None → b ≡ true
+needed_of : (b : Bool) → cond {A = Option ℕ} b None (Some 1) ≡ None → b ≡ true
 needed_of true h = refl
 needed_of false h = let no : ⊥ = cc in absurd no
 

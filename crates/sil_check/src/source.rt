@@ -1,5 +1,5 @@
 // From the cards of a source to its program.
-ghost use Rattle.std.specs.Prelude.{◌≡◌, ◌≤◌, [], length, All, Ok, IfOk, IfErr, OnOk, MatchResult};
+ghost use Rattle.std.specs.Prelude.{◌≡◌, ◌≤◌, [], length, true, All, Ok, IfOk, IfErr, OnOk, MatchResult};
 ghost use Rattle.std.specs.List.{list_all};
 ghost use Rattle.layout_params.specs.Parameters.{AreLegal};
 ghost use Rattle.layout_params.specs.Sizes.{packed_16};
