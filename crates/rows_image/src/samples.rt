@@ -17,8 +17,10 @@ pub enum Sample {
     Tables,
 }
 
-const STATEMENTS: [(u64, u32, Macro); 2] =
-    [(0x1_0000, 1, Macro::Output), (0x1_0008, 2, Macro::Endex)];
+const STATEMENTS: [(u64, u32, Macro); 2] = [
+    (0x1_0000, 1, Macro::Output),
+    (0x1_0008, 2, Macro::Endex),
+];
 
 impl Sample {
     pub fn bytes(self, alloc: Global) -> Result<Vec<u8>, Fail> {
@@ -53,7 +55,11 @@ pub fn refused_part(alloc: Global, bytes: &[u8]) -> Result<Option<u8>, Fail> {
     match load_image(alloc, bytes) {
         Ok(image) => {
             let again = write_image(alloc, &image)?;
-            Ok(if again.as_slice() == bytes { None } else { Some(0) })
+            Ok(if again.as_slice() == bytes {
+                None
+            } else {
+                Some(0)
+            })
         }
         Err(ImageStop::Part(part)) => Ok(Some(part)),
         Err(stop) => Err(stop)?,

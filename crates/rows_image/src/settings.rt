@@ -4,18 +4,31 @@ use crate::samples::{put_at, refused_part};
 use std::test::Fail;
 
 const DESCR: usize = 0;
+
 const AOFF: usize = 1;
+
 const FOFF: usize = 2;
+
 const FLEN: usize = 3;
+
 const VOFF: usize = 4;
+
 const VLEN: usize = 5;
+
 const FNC: usize = 6;
+
 const MARK: usize = 7;
+
 const PTR: usize = 8;
+
 const STTL: usize = 9;
+
 const TTL: usize = 10;
+
 const STSIZE: usize = 11;
+
 const DYNSIZ: usize = 12;
+
 const OBSIZ: usize = 13;
 
 /// Settings other than the standard ones, and whether they are legal.
