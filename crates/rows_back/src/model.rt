@@ -42,13 +42,23 @@ fn characters_make_a_descriptor_characters(rt: HostRuntime) -> Result<(), Fail> 
     assert_eq!(rt; cells.cell(first), Some(two_characters(0, b'Y')));
     assert_eq!(rt; cells.set_char(first, b'X'), Some(()));
     assert_eq!(rt; cells.cell(first), Some(two_characters(b'X', b'Y')));
-    let read = [cells.char_at(first), cells.char_at(first + 1), cells.char_at(first + 2)];
+    let read = [
+        cells.char_at(first),
+        cells.char_at(first + 1),
+        cells.char_at(first + 2),
+    ];
     assert_eq!(rt; read, [Some(b'X'), Some(b'Y'), Some(0)]);
-    assert_eq!(rt; (cells.descr(first), cells.field(first, Field::A)), (None, None));
+    assert_eq!(rt;
+        (cells.descr(first), cells.field(first, Field::A)),
+        (None, None)
+    );
     assert_eq!(rt; cells.set_field(first, Field::V, 1), None);
     assert_eq!(rt; cells.cell(first), Some(two_characters(b'X', b'Y')));
     assert_eq!(rt; cells.set_descr(first, minus_one), Some(()));
-    assert_eq!(rt; (cells.char_at(first), cells.descr(first)), (None, Some(minus_one)));
+    assert_eq!(rt;
+        (cells.char_at(first), cells.descr(first)),
+        (None, Some(minus_one))
+    );
     for address in [first + 32, first - 1, -1] {
         assert_eq!(rt; cells.char_at(address), None);
         assert_eq!(rt; cells.set_char(address, b'Z'), None);
@@ -61,16 +71,31 @@ fn a_field_keeps_the_others(rt: HostRuntime) -> Result<(), Fail> {
     let limits = limits_of(&read_params(rt.alloc(), STANDARD_PARAMS)?);
     let mut cells = Cells::new(rt.alloc(), limits, &[], 1)?;
     let at = 0x4000_0000;
-    let writes = [(Field::A, 0xffff_ffff_ffff_fffe), (Field::F, 65_535), (Field::V, 4_294_967_295)];
+    let writes = [
+        (Field::A, 0xffff_ffff_ffff_fffe),
+        (Field::F, 65_535),
+        (Field::V, 4_294_967_295),
+    ];
     for (field, value) in writes {
         assert_eq!(rt; cells.set_field(at, field, value), Some(()));
         assert_eq!(rt; cells.field(at, field), Some(value));
         assert_eq!(rt; cells.set_field(at + 8, field, value), None);
         assert_eq!(rt; cells.field(at + 8, field), None);
     }
-    let whole = Descr { a: -2, f: 65_535, v: 4_294_967_295 };
+    let whole = Descr {
+        a: -2,
+        f: 65_535,
+        v: 4_294_967_295,
+    };
     assert_eq!(rt; cells.descr(at), Some(whole));
-    assert_eq!(rt; (a_field(&cells, at), f_field(&cells, at), v_field(&cells, at)), (Some(-2), Some(65_535), Some(4_294_967_295)));
+    assert_eq!(rt;
+        (
+            a_field(&cells, at),
+            f_field(&cells, at),
+            v_field(&cells, at)
+        ),
+        (Some(-2), Some(65_535), Some(4_294_967_295))
+    );
     Ok(())
 }
 
