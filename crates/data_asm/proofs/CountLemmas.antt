@@ -1,7 +1,7 @@
 -- As many cells stand as the addresses of symbols count.
-use Rattle.std.proofs.Common.{◌≡◌, ℕ, ◌+◌, ◌*◌, ◌≤◌, ◌<◌, ◌^◌, Bool, true, false, cond, ◌&&◌, get_or, drop, List, [], ◌∷◌, ◌++◌, length, Option, Some, None, pos, refl, sym, ap, ◌∙◌, subst, arith, length-append, add-one, suc}
+use Rattle.std.proofs.Common.{◌≡◌, ℕ, ◌+◌, ◌*◌, ◌≤◌, ◌<◌, ◌^◌, Bool, true, false, not, cond, ◌&&◌, get_or, drop, List, [], ◌∷◌, ◌++◌, length, Option, Some, None, pos, refl, sym, ap, ◌∙◌, arith, length-append, add-one, suc}
 use Rattle.std.specs.List.{list_all}
-use Rattle.std.specs.Prelude.{All, ℤ, unwrap_or, option_and_then}
+use Rattle.std.specs.Prelude.{All, ℤ, unwrap_or}
 use Rattle.std.specs.Int.{div_ceil}
 use Rattle.std.proofs.Math.Nat.{mul-le-mul_left}
 use Rattle.std.proofs.Math.Seq.{drop-cons}
@@ -18,17 +18,16 @@ use Rattle.sil_operands.specs.declared.operand.Operand.TheVariants.{Null, Expr, 
 use Rattle.sil_symbols.specs.declared.stmt.Stmt.{Stmt}
 use Rattle.sil_symbols.specs.Parts.{part_of, takes_size}
 use Rattle.sil_symbols.specs.Values.{first_expression}
-use Rattle.sil_symbols.specs.Addresses as symbols
 use Rattle.sil_symbols.specs.Addresses.{size_of, text_length, part_cells, past_part, past, spot_after, first_spot}
 use Rattle.sil_symbols.specs.Symbols.{size_names, value_of, extent}
 use Rattle.sil_symbols.specs.Rules.{with_fault, faults_from}
 use Rattle.sil_symbols.specs.Laws.{HasSize}
 use Rattle.sil_base.specs.declared.places.TheConstants.{FIRST_CELL}
 use Rattle.sil_model.specs.Start.{zero_cell}
-use Rattle.data_asm.specs.Texts.{text_cells, blank_cells}
-use Rattle.data_asm.specs.Fields.{operand_value, value_at, first_text, as_number}
+use Rattle.data_asm.specs.Texts.{text_cells}
+use Rattle.data_asm.specs.Fields.{value_at, first_text, as_number}
 use Rattle.data_asm.specs.Cells.{specifier, data_cells, cells_of, cells_after, static_cells_of}
-use Rattle.data_asm.specs.Faults.{statement_fits, data_rule, data_faults}
+use Rattle.data_asm.specs.Faults.{statement_fits, is_formatted, data_rule, data_faults}
 use Rattle.data_asm.proofs.TextLemmas.{cells_count}
 
 text_same : (operands : List Operand) → length (first_text operands) ≡ text_length operands
@@ -114,18 +113,28 @@ after_step size values before source i s h is =
     let e : drop i source ≡ s ∷ drop (i + 1) source = rw add-one (drop-cons source i s h ∙ ap (λ x. x ∷ drop (suc i) source) (sym is)) in
     ap (cells_after size values before) e
 
--- where no line breaks the rule, all data fit
-abbrev broken : Bool → Option ℕ
-broken b = cond b None (Some 1)
+-- where no line breaks a rule, all data fit, and all texts of FORMAT are formats
+abbrev broken : Bool → Bool → Option ℕ
+broken fits formatted = cond (not fits) (Some 1) (cond (not formatted) (Some 2) None)
 
-clean_first : (b : Bool) (card : ℕ) (rest : List Fault) (others : Bool) → (rest ≡ [] → others ≡ true) → with_fault 65 card (broken b) rest ≡ [] → (b && others) ≡ true
-clean_first true card rest others next h = next h
-clean_first false card rest others next h = let no : ⊥ = cc in absurd no
+clean_first : (fits formatted : Bool) (card : ℕ) (rest : List Fault) → with_fault 65 card (broken fits formatted) rest ≡ [] → (fits ≡ true) × (formatted ≡ true) × (rest ≡ [])
+clean_first true true card rest h = (refl, refl, h)
+clean_first true false card rest h = let no : ⊥ = cc in absurd no
+clean_first false formatted card rest h = let no : ⊥ = cc in absurd no
 
-clean_from : (p : Parameters) (whole : List Stmt) (place : ℕ) (source : List Stmt) → faults_from 65 (data_rule p whole) place source ≡ [] → list_all (statement_fits p whole) source ≡ true
-clean_from p whole place [] h = refl
-clean_from p whole place (s ∷ source) h = clean_first (statement_fits p whole s) s.card _ (list_all (statement_fits p whole) source) (clean_from p whole (place + 1) source) h
+both_true : (a b : Bool) → a ≡ true → b ≡ true → (a && b) ≡ true
+both_true a b h k = rw (h, k) refl
 
-pub clean : (p : Parameters) (source : List Stmt) → data_faults p source ≡ [] → list_all (statement_fits p source) source ≡ true
+abbrev IsClean : Parameters → List Stmt → List Stmt → Type 0
+IsClean p whole source = (list_all (statement_fits p whole) source ≡ true) × (list_all is_formatted source ≡ true)
+
+clean_from : (p : Parameters) (whole : List Stmt) (place : ℕ) (source : List Stmt) → faults_from 65 (data_rule p whole) place source ≡ [] → IsClean p whole source
+clean_from p whole place [] h = (refl, refl)
+clean_from p whole place (s ∷ source) h =
+    let (fits, formatted, rest) = clean_first (statement_fits p whole s) (is_formatted s) s.card (faults_from 65 (data_rule p whole) (place + 1) source) h in
+    let (all_fit, all_formatted) = clean_from p whole (place + 1) source rest in
+    (both_true (statement_fits p whole s) (list_all (statement_fits p whole) source) fits all_fit, both_true (is_formatted s) (list_all is_formatted source) formatted all_formatted)
+
+pub clean : (p : Parameters) (source : List Stmt) → data_faults p source ≡ [] → IsClean p source source
 unfolding data_faults
 clean p source h = clean_from p source 0 source h

@@ -1,6 +1,6 @@
 -- The cells of data that fit are cells of the machine.
-use Rattle.std.proofs.Common.{◌≡◌, ℕ, ◌≤◌, ◌<◌, Bool, true, false, ◌&&◌, List, [], ◌∷◌, ◌++◌, length, Option, Some, None, pos, negsuc, refl, subst, arith, rules}
-use Rattle.std.specs.Prelude.{All, FitsSigned, ℤ, nat_le, slice_get, unwrap_or}
+use Rattle.std.proofs.Common.{◌≡◌, ℕ, ◌≤◌, ◌<◌, Bool, true, ◌&&◌, List, [], ◌∷◌, length, Option, Some, None, pos, negsuc, refl, arith, rules}
+use Rattle.std.specs.Prelude.{All, FitsSigned, ℤ, slice_get, unwrap_or}
 use Rattle.std.specs.Int.{w64, div_ceil}
 use Rattle.std.proofs.lemmas.Bool.Decides.{nat_tests}
 use Rattle.std.proofs.lemmas.List.Elements.{All-nil, All-cons, All-append, All-replicate}
@@ -19,7 +19,7 @@ use Rattle.sil_model.specs.declared.limits.Limits.{Limits}
 use Rattle.sil_model.specs.Memory.{FitsCell}
 use Rattle.sil_model.specs.Start.{zero_cell}
 use Rattle.data_asm.specs.declared.fields.Fields.{Fields}
-use Rattle.data_asm.specs.Texts.{text_cells, blank_cells}
+use Rattle.data_asm.specs.Texts.{text_cells}
 use Rattle.data_asm.specs.Fields.{operand_value, value_at, first_text, first_fields, second_fields, is_within, fit, as_number, descriptor}
 use Rattle.data_asm.specs.Cells.{specifier, data_cells}
 use Rattle.data_asm.specs.Faults.{data_fits}

@@ -1,5 +1,5 @@
 -- The descriptors of data statements, before their fields are bounded.
-use Rattle.std.specs.Prelude.{ℕ, nat_le, List, [], ◌∷◌, Option, Some, None, unwrap_or, slice_get, Bool, true, false, ◌&&◌, ℤ, pos, negsuc}
+use Rattle.std.specs.Prelude.{ℕ, nat_le, List, [], ◌∷◌, Option, Some, None, unwrap_or, slice_get, Bool, false, ◌&&◌, ℤ, pos, negsuc}
 use Rattle.layout_params.specs.declared.cell.Cell.{Cell}
 use Rattle.layout_params.specs.declared.cell.Cell.TheVariants.{Descr}
 use Rattle.sil_operands.specs.declared.expr.Term.{Term}

@@ -10,7 +10,7 @@ ghost use Rattle.sil_symbols.specs.Symbols.{value_of, extent, IsWithinLimits};
 ghost use Rattle.data_asm.specs.Fields.{fit, descriptor};
 ghost use Rattle.data_asm.specs.Cells.{specifier, data_cells, cells_of, static_cells_of};
 ghost use Rattle.data_asm.specs.Texts.{text_cells};
-ghost use Rattle.data_asm.specs.Faults.{statement_fits, data_faults};
+ghost use Rattle.data_asm.specs.Faults.{statement_fits, is_formatted, data_faults};
 
 use crate::faults::data_faults;
 use crate::fields::{Fields, first_fields, first_number, first_text, second_fields};
@@ -160,7 +160,8 @@ fn static_cells(alloc: Global, source: &ResolvedSource<'_>) -> Result<Vec<Cell>,
 }
 
 /// The static cells of statements, of which `symbols` are the symbols: those of each data
-/// statement in order, or the lines that have an F, a V or an L that isn't within its limit (A1).
+/// statement in order, or the lines that have an F, a V or an L that isn't within its limit (A1)
+/// and those of a FORMAT whose text is no format (A2).
 pub fn assemble(
     alloc: Global,
     statements: &[Stmt],
@@ -173,6 +174,7 @@ pub fn assemble(
     ensures faultless { IfOk result (λ v. data_faults params.now statements.now ≡ []) }
     ensures cells { IfOk result (λ v. v.items ≡ static_cells_of params.now statements.now) }
     ensures fit { IfOk result (λ v. All (FitsCell (limits_of params.now.settings)) v.items) }
+    ensures formats { IfOk result (λ v. list_all is_formatted statements.now ≡ true) }
     ensures count { IfOk result (λ v. length v.items ≡ (extent params.now statements.now).cells) }
     ensures faults { IfErr result (IsStopFor (data_faults params.now statements.now)) }
 {

@@ -15,7 +15,7 @@ use std::test::Fail;
 
 /// Macros, operand fields, and their cells, or the fault of the line: of a descriptor the three fields, of
 /// characters all up to the last that isn't 0. The label is X.
-static ROWS: [(Macro, &[u8], &[u8]); 11] = [
+static ROWS: [(Macro, &[u8], &[u8]); 16] = [
     (Macro::Descr, b"", b"0,0,0;"),
     (Macro::Descr, b"-7", b"-7,0,0;"),
     (Macro::Descr, b",2,3", b"0,2,3;"),
@@ -31,6 +31,15 @@ static ROWS: [(Macro, &[u8], &[u8]); 11] = [
     (Macro::Spec, b"1,2,3,-4,5", b"1,2,3;-4,0,5;"),
     (Macro::Array, b"2", b"0,0,0;0,0,0;"),
     (Macro::Buffer, b"17", b"                ;                ;"),
+    (Macro::Format, b"'(Q3)'", b"1 A2;"),
+    (Macro::Format, b"''", b"1 A2;"),
+    (Macro::Format, b"'(I5) X'", b"1 A2;"),
+    (Macro::Format, b"'(I5)'", b"(I5);"),
+    (
+        Macro::Format,
+        b"'(2I3,1H''/12H HELLO WORLD)'",
+        b"(2I3,1H'/12H HEL;LO WORLD);",
+    ),
 ];
 
 /// The statement of card 1 with this operand field.
@@ -54,6 +63,7 @@ fn data_statement(alloc: Global, name: Macro, field: &[u8]) -> Result<Stmt, Fail
         Macro::String => statement(alloc, Macro::String, field),
         Macro::Array => statement(alloc, Macro::Array, field),
         Macro::Buffer => statement(alloc, Macro::Buffer, field),
+        Macro::Format => statement(alloc, Macro::Format, field),
         _ => statement(alloc, Macro::Descr, field),
     }
 }

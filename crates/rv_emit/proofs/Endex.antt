@@ -13,7 +13,7 @@ use Rattle.sil_model.specs.declared.program.Flow.TheVariants.{Exit as ExitFlow}
 use Rattle.sil_model.specs.declared.program.Program.{Program}
 use Rattle.sil_model.specs.declared.program.Statement.{Statement}
 use Rattle.sil_model.specs.Access.{◌>>=◌, a_at}
-use Rattle.sil_model.specs.Clauses.{endex, exit_code}
+use Rattle.sil_model.specs.FlowClauses.{endex, exit_code}
 use Rattle.sil_model.specs.Effects.{with_memory}
 use Rattle.sil_model.specs.Table.{clause}
 use Rattle.sil_model.specs.States as machine

@@ -12,7 +12,7 @@ use Rattle.sil_model.specs.declared.program.Arg.TheVariants.{Place, Number}
 use Rattle.sil_model.specs.declared.program.Program.{Program}
 use Rattle.sil_model.specs.declared.program.Statement.{Statement}
 use Rattle.sil_model.specs.Access.{◌>>=◌, with_cell, a_at, set_a_at}
-use Rattle.sil_model.specs.Clauses.{incra}
+use Rattle.sil_model.specs.DescriptorClauses.{incra}
 use Rattle.sil_model.specs.Effects.{with_memory, onward}
 use Rattle.sil_model.specs.Table.{clause}
 use Rattle.sil_model.specs.Integers.{◌⊞◌, wrapped_sum}

@@ -16,7 +16,7 @@ use Rattle.sil_model.specs.declared.program.Arg.TheVariants.{Place}
 use Rattle.sil_model.specs.declared.program.Program.{Program}
 use Rattle.sil_model.specs.declared.program.Statement.{Statement}
 use Rattle.sil_model.specs.Access.{◌>>=◌, with_cell, descr_at, set_descr_at}
-use Rattle.sil_model.specs.Clauses.{movd}
+use Rattle.sil_model.specs.DescriptorClauses.{movd}
 use Rattle.sil_model.specs.Effects.{with_memory, onward}
 use Rattle.sil_model.specs.Table.{clause}
 use Rattle.sil_model.specs.States as machine

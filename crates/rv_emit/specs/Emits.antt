@@ -10,11 +10,10 @@ use Rattle.image_file.specs.Image.{Image, StatementEntry, places_rise}
 use Rattle.rv_emit.specs.Parts.{IsImageOf}
 use Rattle.rv_emit.specs.Ways.{CarriesOut}
 
--- a program that can be emitted so far: in the standard layout, without tables, by statements that are built
+-- a program that can be emitted so far: in the standard layout, by statements that are built
 pub record CanEmit (program : Program) (settings : Settings) : Type 0 where
   pub well_formed : IsWellFormed program settings
   pub standard : settings.sizes ≡ packed_16
-  pub no_tables : program.tables ≡ []
   pub built : AreBuilt settings.sizes.descr program
 
 -- an image of the program with these words, whose statements stand at these places, carries the program out

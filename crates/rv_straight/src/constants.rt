@@ -1,10 +1,8 @@
 // Numbers in registers.
-ghost use Rattle.std.specs.Prelude.{◌≡◌, ◌++◌, ◌<◌, map, OnOk, IsTrue};
-ghost use Rattle.rv_isa.specs.Words.{word_of};
+ghost use Rattle.std.specs.Prelude.{◌≡◌, ◌++◌, OnOk};
 ghost use Rattle.rv_straight.specs.Constants.{constant, constant_12, constant_32, constant_64, is_short, is_word, lower_of, upper_of};
 
 use crate::instrs::{immediate, upper_part};
-use crate::words::append;
 use rv_isa::{IOp, Instr, UOp};
 use std::alloc::AllocError;
 
@@ -70,17 +68,16 @@ fn long(rd: u8, n: u64) -> [Instr; 8]
     ]
 }
 
-/// Appends the words that make a number of 64 bits in a register: one, two or eight of them.
+/// Appends the instructions that make a number of 64 bits in a register: one, two or eight of them.
 #[tactic(auto, unfolding(crate::specs::Constants::constant))]
-pub fn append_constant(words: &mut Vec<u32>, rd: u8, n: u64) -> Result<(), AllocError>
-    requires { rd < 32 }
-    ensures { OnOk result (words.new.items ≡ words.old.items ++ map word_of (constant rd n)) }
+pub fn append_constant(code: &mut Vec<Instr>, rd: u8, n: u64) -> Result<(), AllocError>
+    ensures { OnOk result (code.new.items ≡ code.old.items ++ constant rd n) }
 {
     if is_short(n) {
-        append(words, &short(rd, n))
+        code.extend_from_slice(&short(rd, n))
     } else if is_word(n) {
-        append(words, &word(rd, n))
+        code.extend_from_slice(&word(rd, n))
     } else {
-        append(words, &long(rd, n))
+        code.extend_from_slice(&long(rd, n))
     }
 }

@@ -1,5 +1,6 @@
 // Jumps and calls to a place anywhere in the code.
 ghost use Rattle.std.specs.Prelude.{◌≡◌, ◌<◌, ◌^◌};
+ghost use Rattle.rv_straight.specs.Constants.{lower_of};
 ghost use Rattle.rv_straight.specs.Jumps.{distance, far_upper, inverse, jump_if, leap};
 
 use crate::constants::{lower, upper};
@@ -14,10 +15,17 @@ fn distance(from: u32, to: u32) -> u32
 }
 
 /// The upper 20 bits of the way, for AUIPC.
-fn far_upper(from: u32, to: u32) -> u32
+pub fn far_upper(from: u32, to: u32) -> u32
     ensures { result ≡ far_upper from to }
 {
     (upper(u64::from(distance(from, to))) % (1 << 20)) as u32
+}
+
+/// The lower 12 bits of the way, for JALR.
+pub fn far_lower(from: u32, to: u32) -> i16
+    ensures { result ≡ lower_of (distance from to) }
+{
+    lower(u64::from(distance(from, to)))
 }
 
 /// From a place to another, through a register, with the next place in rd.
@@ -27,12 +35,7 @@ pub fn leap(through: u8, rd: u8, place: u32, to: u32) -> [Instr; 2]
 {
     [
         upper_part(UOp::Auipc, through, far_upper(place, to)),
-        immediate(
-            IOp::Jalr,
-            rd,
-            through,
-            lower(u64::from(distance(place, to))),
-        ),
+        immediate(IOp::Jalr, rd, through, far_lower(place, to)),
     ]
 }
 
@@ -60,6 +63,6 @@ pub fn jump_if(op: BOp, rs1: u8, rs2: u8, place: u32, to: u32) -> [Instr; 3]
     [
         branch(inverse(op), rs1, rs2, 12),
         upper_part(UOp::Auipc, 28, far_upper(from, to)),
-        immediate(IOp::Jalr, 0, 28, lower(u64::from(distance(from, to)))),
+        immediate(IOp::Jalr, 0, 28, far_lower(from, to)),
     ]
 }

@@ -10,8 +10,8 @@ mod words;
 
 pub use constants::{append_constant, lower, upper};
 pub use instrs::{branch, immediate, operate, store, upper_part};
-pub use jumps::{inverse, jump_if, leap};
+pub use jumps::{far_lower, far_upper, inverse, jump_if, leap};
 pub use laws::{
     law_of_constants, law_of_effects, law_of_jumps, law_of_straight_code, law_of_words,
 };
-pub use words::append;
+pub use words::append_words;

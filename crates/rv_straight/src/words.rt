@@ -5,8 +5,8 @@ ghost use Rattle.rv_isa.specs.Words.{IsInstr, word_of};
 use rv_isa::{Instr, encode};
 use std::alloc::AllocError;
 
-/// Appends the words of instructions.
-pub fn append(words: &mut Vec<u32>, code: &[Instr]) -> Result<(), AllocError>
+/// Appends the words of instructions, which have them.
+pub fn append_words(words: &mut Vec<u32>, code: &[Instr]) -> Result<(), AllocError>
     requires { All IsInstr code.now }
     ensures { OnOk result (words.new.items ≡ words.old.items ++ map word_of code.now) }
 {

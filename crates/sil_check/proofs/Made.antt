@@ -1,15 +1,14 @@
 -- Lists that are made item by item.
-use Rattle.std.proofs.Common.{◌≡◌, ℕ, ◌+◌, ◌<◌, ◌≤◌, suc, Bool, true, false, cond, List, [], ◌∷◌, ◌++◌, length, get_or, drop, Option, Some, None, refl, sym, ap, ◌∙◌, append_assoc, add-one, arith}
-use Rattle.std.specs.Prelude.{option_map, ℤ}
+use Rattle.std.proofs.Common.{◌≡◌, ℕ, ◌+◌, ◌<◌, suc, Bool, true, false, cond, List, [], ◌∷◌, ◌++◌, length, get_or, drop, Option, Some, None, refl, sym, ap, ◌∙◌, append_assoc, add-one, arith}
+use Rattle.std.specs.Prelude.{option_map}
 use Rattle.std.proofs.Math.Seq.{drop-cons}
 use Rattle.sil_macros.specs.declared.shapes.Place.{Place}
 use Rattle.sil_macros.specs.Rows.{row}
-use Rattle.sil_operands.specs.declared.expr.Term.{Term}
 use Rattle.sil_operands.specs.declared.operand.Operand.{Operand}
 use Rattle.sil_symbols.specs.declared.stmt.Stmt.{Stmt}
 use Rattle.sil_model.specs.declared.program.Arg.{Arg}
 use Rattle.sil_model.specs.declared.program.Statement.{Statement}
-use Rattle.sil_check.specs.Arguments.{and_before, arg_of, args_of, first_of, rest_of}
+use Rattle.sil_check.specs.Arguments.{Scope, and_before, arg_of, args_of, first_of, rest_of}
 use Rattle.sil_check.specs.Programs.{machine_statement, machine_statements}
 
 -- the items that are made already stand before those that are made next
@@ -37,20 +36,20 @@ unfit_first : {A : Type 0} (o : Option A) (rest : Option (List A)) → o ≡ Non
 unfit_first o rest h = rw h refl
 
 -- an operand is unfit
-pub unfit : (values : List Term → Option ℤ) (places : List Place) (i : ℕ) (place : Place) (operands : List Operand) (made : List Arg) →
-    i < length places → place ≡ get_or places i place → arg_of values place (first_of operands) ≡ None → after made (args_of values (drop i places) operands) ≡ None
-unfit values places i place operands made h is none =
-    ap (λ ps. after made (args_of values ps operands)) (first_left places i place h is)
-    ∙ ap (after made) (unfit_first (arg_of values place (first_of operands)) (args_of values (drop (i + 1) places) (rest_of operands)) none)
+pub unfit : (scope : Scope) (places : List Place) (i : ℕ) (place : Place) (operands : List Operand) (made : List Arg) →
+    i < length places → place ≡ get_or places i place → arg_of scope place (first_of operands) ≡ None → after made (args_of scope (drop i places) operands) ≡ None
+unfit scope places i place operands made h is none =
+    ap (λ ps. after made (args_of scope ps operands)) (first_left places i place h is)
+    ∙ ap (after made) (unfit_first (arg_of scope place (first_of operands)) (args_of scope (drop (i + 1) places) (rest_of operands)) none)
 
 -- an operand is made
-pub fitted : (values : List Term → Option ℤ) (places : List Place) (i : ℕ) (place : Place) (operands : List Operand) (made : List Arg) (x : Arg) →
-    i < length places → place ≡ get_or places i place → arg_of values place (first_of operands) ≡ Some x →
-    after made (args_of values (drop i places) operands) ≡ after (made ++ x ∷ []) (args_of values (drop (i + 1) places) (rest_of operands))
-fitted values places i place operands made x h is some =
-    ap (λ ps. after made (args_of values ps operands)) (first_left places i place h is)
-    ∙ ap (λ o. after made (and_before o (args_of values (drop (i + 1) places) (rest_of operands)))) some
-    ∙ after_push made x (args_of values (drop (i + 1) places) (rest_of operands))
+pub fitted : (scope : Scope) (places : List Place) (i : ℕ) (place : Place) (operands : List Operand) (made : List Arg) (x : Arg) →
+    i < length places → place ≡ get_or places i place → arg_of scope place (first_of operands) ≡ Some x →
+    after made (args_of scope (drop i places) operands) ≡ after (made ++ x ∷ []) (args_of scope (drop (i + 1) places) (rest_of operands))
+fitted scope places i place operands made x h is some =
+    ap (λ ps. after made (args_of scope ps operands)) (first_left places i place h is)
+    ∙ ap (λ o. after made (and_before o (args_of scope (drop (i + 1) places) (rest_of operands)))) some
+    ∙ after_push made x (args_of scope (drop (i + 1) places) (rest_of operands))
 
 -- ---- statements
 
@@ -61,17 +60,17 @@ executable_first : (b : Bool) (o : Option Statement) (rest : Option (List Statem
 executable_first b o rest h = rw h refl
 
 -- a statement of the assembly is passed over
-pub passed_over : (values : List Term → Option ℤ) (source : List Stmt) (i : ℕ) (s : Stmt) → i < length source → s ≡ get_or source i s → (row s.name).assembly ≡ true →
-    machine_statements values (drop i source) ≡ machine_statements values (drop (i + 1) source)
-passed_over values source i s h is b =
-    ap (machine_statements values) (first_left source i s h is)
-    ∙ assembly_passed (row s.name).assembly (machine_statement values s) (machine_statements values (drop (i + 1) source)) b
+pub passed_over : (scope : Scope) (source : List Stmt) (i : ℕ) (s : Stmt) → i < length source → s ≡ get_or source i s → (row s.name).assembly ≡ true →
+    machine_statements scope (drop i source) ≡ machine_statements scope (drop (i + 1) source)
+passed_over scope source i s h is b =
+    ap (machine_statements scope) (first_left source i s h is)
+    ∙ assembly_passed (row s.name).assembly (machine_statement scope s) (machine_statements scope (drop (i + 1) source)) b
 
 -- an executable statement is made
-pub taken : (values : List Term → Option ℤ) (source : List Stmt) (i : ℕ) (s : Stmt) (made : List Statement) (x : Statement) → i < length source → s ≡ get_or source i s → (row s.name).assembly ≡ false → machine_statement values s ≡ Some x →
-    after made (machine_statements values (drop i source)) ≡ after (made ++ x ∷ []) (machine_statements values (drop (i + 1) source))
-taken values source i s made x h is b some =
-    ap (λ ss. after made (machine_statements values ss)) (first_left source i s h is)
-    ∙ ap (after made) (executable_first (row s.name).assembly (machine_statement values s) (machine_statements values (drop (i + 1) source)) b
-    ∙ ap (λ o. and_before o (machine_statements values (drop (i + 1) source))) some)
-    ∙ after_push made x (machine_statements values (drop (i + 1) source))
+pub taken : (scope : Scope) (source : List Stmt) (i : ℕ) (s : Stmt) (made : List Statement) (x : Statement) → i < length source → s ≡ get_or source i s → (row s.name).assembly ≡ false → machine_statement scope s ≡ Some x →
+    after made (machine_statements scope (drop i source)) ≡ after (made ++ x ∷ []) (machine_statements scope (drop (i + 1) source))
+taken scope source i s made x h is b some =
+    ap (λ ss. after made (machine_statements scope ss)) (first_left source i s h is)
+    ∙ ap (after made) (executable_first (row s.name).assembly (machine_statement scope s) (machine_statements scope (drop (i + 1) source)) b
+    ∙ ap (λ o. and_before o (machine_statements scope (drop (i + 1) source))) some)
+    ∙ after_push made x (machine_statements scope (drop (i + 1) source))

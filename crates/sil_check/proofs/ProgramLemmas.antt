@@ -1,5 +1,5 @@
 -- Programs of sources that were checked are well formed.
-use Rattle.std.proofs.Common.{◌≡◌, ℕ, ◌+◌, ◌-◌, ◌*◌, ◌/◌, ◌%◌, ◌^◌, ◌<◌, ◌≤◌, Bool, true, false, cond, ◌&&◌, ◌==◌, List, [], ◌∷◌, length, Option, Some, None, ◌⊎◌, inl, inr, subst, pos, negsuc, refl, sym, ap, ◌∙◌, arith, rules}
+use Rattle.std.proofs.Common.{◌≡◌, ℕ, ◌+◌, ◌-◌, ◌*◌, ◌/◌, ◌%◌, ◌^◌, ◌<◌, ◌≤◌, Bool, true, false, cond, ◌&&◌, ◌==◌, List, [], ◌∷◌, length, Option, Some, None, ◌⊎◌, inl, inr, subst, pos, negsuc, refl, sym, ap, ◌∙◌, arith}
 use Rattle.std.specs.Prelude.{All, IfSome, codes, option_and_then, option_map, nat_le, nat_lt, ◌||◌, slice_get, ℤ, sum_by}
 use Rattle.std.specs.Int.{div_ceil}
 use Rattle.std.specs.List.{list_all}
@@ -12,30 +12,30 @@ use Rattle.layout_params.specs.Parameters.{Parameters, Settings}
 use Rattle.sil_macros.specs.declared.names.Macro.{Macro}
 use Rattle.sil_macros.specs.declared.names.Macro.TheVariants as macros
 use Rattle.sil_macros.specs.Rows.{row}
-use Rattle.sil_operands.specs.declared.expr.Term.{Term}
 use Rattle.sil_symbols.specs.declared.stmt.Stmt.{Stmt}
 use Rattle.sil_symbols.specs.Parts.{part_of}
 use Rattle.sil_symbols.specs.Addresses.{cells_of, past_part, past, spot_after, first_spot}
-use Rattle.sil_symbols.specs.Symbols.{size_names, value_of, value_of_name, extent, IsWithinLimits}
+use Rattle.sil_symbols.specs.Symbols.{size_names, value_of_name, extent, IsWithinLimits}
 use Rattle.sil_base.specs.declared.places.TheConstants.{FIRST_CELL}
 use Rattle.sil_model.specs.declared.program.Arg.{Arg}
 use Rattle.sil_model.specs.declared.program.Arg.TheVariants as arg
 use Rattle.sil_model.specs.declared.program.Program.{Program}
 use Rattle.sil_model.specs.declared.program.Statement.{Statement}
-use Rattle.sil_model.specs.declared.table.Table.{Table}
 use Rattle.layout_params.specs.Areas.{hidden_cells, all_cells}
 use Rattle.sil_base.specs.declared.places.TheConstants.{FIRST_ENTRY}
 use Rattle.sil_model.specs.declared.program.Specials.{Specials}
 use Rattle.sil_model.specs.Built.{AreBuilt, AreStatic, IsBuilt, IsStatic, is_built}
 use Rattle.sil_model.specs.Fits.{Bounds, FitsRow, IsStatement, bounds_of}
 use Rattle.sil_model.specs.Needs.{has_needed}
-use Rattle.sil_model.specs.WellFormed.{AreSpecials, IsWellFormed, IsTable}
-use Rattle.sil_check.specs.Arguments.{is_descriptor, is_descriptor_at, is_static, and_before, args_of}
+use Rattle.sil_format.specs.Grammar.{IsFormat}
+use Rattle.sil_model.specs.WellFormed.{AreSpecials, IsWellFormed}
+use Rattle.syntax_tables.specs.declared.saying.Said.{Said}
+use Rattle.sil_check.specs.Arguments.{is_descriptor, is_descriptor_at, is_static, Scope, scope_of, and_before, args_of}
 use Rattle.sil_check.specs.Specials.{number_within, specials_of, statement_at}
 use Rattle.sil_check.specs.Shapes.{fits}
 use Rattle.sil_check.specs.Programs.{statement_with, machine_statement, machine_statements, program_with, is_static_program, is_static_statement}
 use Rattle.sil_check.specs.Verdicts.{is_assembled, is_built_macro, is_built_statement}
-use Rattle.sil_check.specs.Held.{HasFitNumbers, HasFitPlaces, IsProgramOf}
+use Rattle.sil_check.specs.Held.{HasFitArgs, HasFitPlaces, IsProgramOf}
 use Rattle.sil_check.proofs.ArgLemmas.{IsFirst, first_is, args_fit, args_within}
 
 both : (a b : Bool) → (a && b) ≡ true → (a ≡ true) × (b ≡ true)
@@ -92,20 +92,20 @@ counted_once macros.Title n spot = refl
 counted_once _ n spot = refl
 
 -- as many statements are made as are counted
-counted : (values : List Term → Option ℤ) (descr : ℕ) (names : _) (spot : _) (source : List Stmt) (made : List Statement) → machine_statements values source ≡ Some made → (spot_after descr names spot source).statements ≡ spot.statements + length made
-counted values descr names spot [] made h =
+counted : (scope : Scope) (descr : ℕ) (names : _) (spot : _) (source : List Stmt) (made : List Statement) → machine_statements scope source ≡ Some made → (spot_after descr names spot source).statements ≡ spot.statements + length made
+counted scope descr names spot [] made h =
     let is : made ≡ [] = cc in
     rw is (omega arith)
-counted values descr names spot (s ∷ source) made h =
+counted scope descr names spot (s ∷ source) made h =
     let once = counted_once s.name (cells_of descr names s) spot in
-    elim (step_is (row s.name).assembly (machine_statement values s) (machine_statements values source) made h) [
+    elim (step_is (row s.name).assembly (machine_statement scope s) (machine_statements scope source) made h) [
       | inl e ↦
-          let next = counted values descr names (past descr names spot s) source made e.1 in
+          let next = counted scope descr names (past descr names spot s) source made e.1 in
           let same : (past descr names spot s).statements ≡ spot.statements = once ∙ ap (λ b. cond b spot.statements (spot.statements + 1)) e.0 in
           omega (arith, next, same)
       | inr e ↦
           let (item, more, first, rest, is) = e.1 in
-          let next = counted values descr names (past descr names spot s) source more rest in
+          let next = counted scope descr names (past descr names spot s) source more rest in
           let same : (past descr names spot s).statements ≡ spot.statements + 1 = once ∙ ap (λ b. cond b spot.statements (spot.statements + 1)) e.0 in
           let count : length made ≡ length more + 1 = rw is (omega arith) in
           omega (arith, next, same, count)
@@ -127,35 +127,35 @@ pub record IsFit (b : Bounds) (statement : Statement) : Type 0 where
   pub row : FitsRow b statement
   pub built : is_built statement.name ≡ true
 
-statement_fits : (b : Bounds) (values : List Term → Option ℤ) (s : Stmt) (o : Option (List Arg)) (made : Statement) → args_of values (row s.name).places s.operands ≡ o → option_map (statement_with s) o ≡ Some made →
-    (row s.name).assembly ≡ false → is_built_macro s.name ≡ true → HasFitNumbers made → IsFit b made
-statement_fits b values s None made e h runs built numbers = let no : ⊥ = cc in absurd no
-statement_fits b values s (Some args) made e h runs built numbers =
+statement_fits : (b : Bounds) (scope : Scope) (s : Stmt) (o : Option (List Arg)) (made : Statement) → args_of scope (row s.name).places s.operands ≡ o → option_map (statement_with s) o ≡ Some made →
+    (row s.name).assembly ≡ false → is_built_macro s.name ≡ true → HasFitArgs b.tables made → IsFit b made
+statement_fits b scope s None made e h runs built numbers = let no : ⊥ = cc in absurd no
+statement_fits b scope s (Some args) made e h runs built numbers =
     let is : made ≡ statement_with s args = cc in
-    let these : HasFitNumbers (statement_with s args) = rw is at numbers in
+    let these : HasFitArgs b.tables (statement_with s args) = rw is at numbers in
     rw is (record {
       row = record {
         runs = runs;
-        shape = args_fit values (row s.name).places s.operands args e;
-        within = args_within b values (row s.name).places s.operands args e these;
+        shape = args_fit scope (row s.name).places s.operands args e;
+        within = args_within b scope (row s.name).places s.operands args e these;
       };
       built = is_built_of (is_assembled s.name) (is_built s.name) built (not_assembled s.name runs);
     })
 
-statements_fit : (b : Bounds) (values : List Term → Option ℤ) (source : List Stmt) (made : List Statement) → list_all is_built_statement source ≡ true → machine_statements values source ≡ Some made → All HasFitNumbers made → All (IsFit b) made
-statements_fit b values [] made built h numbers =
+statements_fit : (b : Bounds) (scope : Scope) (source : List Stmt) (made : List Statement) → list_all is_built_statement source ≡ true → machine_statements scope source ≡ Some made → All (HasFitArgs b.tables) made → All (IsFit b) made
+statements_fit b scope [] made built h numbers =
     let is : made ≡ [] = cc in
     rw is (All-nil (IsFit b))
-statements_fit b values (s ∷ source) made built h numbers =
+statements_fit b scope (s ∷ source) made built h numbers =
     let (this, others) = both (is_built_statement s) (list_all is_built_statement source) built in
-    elim (step_is (row s.name).assembly (machine_statement values s) (machine_statements values source) made h) [
-      | inl e ↦ statements_fit b values source made others e.1 numbers
+    elim (step_is (row s.name).assembly (machine_statement scope s) (machine_statements scope source) made h) [
+      | inl e ↦ statements_fit b scope source made others e.1 numbers
       | inr e ↦
           let (item, more, first, rest, is) = e.1 in
-          let all : All HasFitNumbers (item ∷ more) = rw is at numbers in
+          let all : All (HasFitArgs b.tables) (item ∷ more) = rw is at numbers in
           let name = (both (is_built_macro s.name) (fits s.name s.operands) this).0 in
-          let fit = statement_fits b values s (args_of values (row s.name).places s.operands) item refl first e.0 name (All-head HasFitNumbers item more all) in
-          rw is (All-cons (IsFit b) item more fit (statements_fit b values source more others rest (All-tail HasFitNumbers item more all)))
+          let fit = statement_fits b scope s (args_of scope (row s.name).places s.operands) item refl first e.0 name (All-head (HasFitArgs b.tables) item more all) in
+          rw is (All-cons (IsFit b) item more fit (statements_fit b scope source more others rest (All-tail (HasFitArgs b.tables) item more all)))
     ]
 
 -- each statement is of a macro that is installed, over static cells
@@ -203,9 +203,9 @@ number_most limit (Some (pos n)) = test (nat_le n limit) refl
 
 -- ---- programs
 
-found : (p : Parameters) (source : List Stmt) (cells : List Cell) (o : Option (List Statement)) (program : Program) → option_map (program_with p source cells) o ≡ Some program → (made : List Statement) × (o ≡ Some made) × (program ≡ program_with p source cells made)
-found p source cells None program h = let no : ⊥ = cc in absurd no
-found p source cells (Some made) program h = (made, refl, cc)
+found : (p : Parameters) (source : List Stmt) (lines : List Said) (cells : List Cell) (o : Option (List Statement)) (program : Program) → option_map (program_with p source lines cells) o ≡ Some program → (made : List Statement) × (o ≡ Some made) × (program ≡ program_with p source lines cells made)
+found p source lines cells None program h = let no : ⊥ = cc in absurd no
+found p source lines cells (Some made) program h = (made, refl, cc)
 
 -- what each program of a source that was checked meets
 pub record IsChecked (settings : Settings) (program : Program) : Type 0 where
@@ -220,9 +220,9 @@ few_cells p source count same limits is =
     omega (arith, hidden, also, limits.cells)
 
 -- the special symbols of a program that was made
-specials_fit : (p : Parameters) (source : List Stmt) (cells : List Cell) (made : List Statement) (program : Program) → program ≡ program_with p source cells made → HasFitPlaces program.specials →
+specials_fit : (p : Parameters) (source : List Stmt) (lines : List Said) (cells : List Cell) (made : List Statement) (program : Program) → program ≡ program_with p source lines cells made → HasFitPlaces program.specials →
     All (IsFit (bounds_of program p.settings)) program.statements → AreSpecials program p.settings
-specials_fit p source cells made program is places fit =
+specials_fit p source lines cells made program is places fit =
     let size = p.settings.sizes.descr in
     let values = value_of_name p source in
     let specials : program.specials ≡ specials_of size (length made) (value_limit p.settings.sizes) values = ap (λ q. q.specials) is in
@@ -240,30 +240,32 @@ specials_fit p source cells made program is places fit =
 
 pub checked : (p : Parameters) (source : List Stmt) (program : Program) → IsProgramOf p source program → IsChecked p.settings program
 checked p source program h =
-    let (made, made_is, is) = found p source program.cells (machine_statements (value_of p source) source) program h.made in
-    let size : p.settings.sizes.descr ≡ 16 = ap (λ s. s.descr) h.standard in
+    let over = h.made in
+    let scope = scope_of p source h.lines in
+    let (made, made_is, is) = found p source h.lines program.cells (machine_statements scope source) program over.made in
+    let size : p.settings.sizes.descr ≡ 16 = ap (λ s. s.descr) over.standard in
     let b = bounds_of program p.settings in
     let statements : program.statements ≡ made = ap (λ q. q.statements) is in
-    let tables : program.tables ≡ [] = ap (λ q. q.tables) is in
     let formats : program.formats ≡ [] = ap (λ q. q.formats) is in
-    let numbers : All HasFitNumbers made = subst (All HasFitNumbers) statements h.numbers in
-    let fit : All (IsFit b) program.statements = subst (All (IsFit b)) (sym statements) (statements_fit b (value_of p source) source made h.built made_is numbers) in
-    let count = counted (value_of p source) p.settings.sizes.descr (size_names p source) first_spot source made made_is in
-    let all = few_cells p source (length program.cells) h.standard h.limits h.count in
+    let args : All (HasFitArgs b.tables) made = subst (All (HasFitArgs b.tables)) statements over.args in
+    let fit : All (IsFit b) program.statements = subst (All (IsFit b)) (sym statements) (statements_fit b scope source made h.built made_is args) in
+    let count = counted scope p.settings.sizes.descr (size_names p source) first_spot source made made_is in
+    let all = few_cells p source (length program.cells) over.standard h.limits h.count in
     let same : length program.statements ≡ length made = ap length statements in
-    let static : is_static_program 16 program ≡ true = subst (λ n. is_static_program n program ≡ true) size h.static in
+    let static : is_static_program 16 program ≡ true = subst (λ n. is_static_program n program ≡ true) size over.static in
     record {
       well_formed = record {
-        legal = h.legal.settings;
+        legal = over.legal.settings;
         statements = omega (arith, count, same, h.limits.executable);
         rows = All-weaker (IsFit b) (FitsRow b) (λ s f. f.row) program.statements fit;
         cells = h.fit;
         cell_count = all;
-        table_count = omega (arith, ap length tables);
-        tables = let P : List Table → Type 0 = λ ts. All (IsTable (length ts)) ts in subst P (sym tables) (All-nil (IsTable 0));
-        formats = subst (All (λ text. length text ≤ 256)) (sym formats) (All-nil (λ text. length text ≤ 256));
+        table_count = over.table_count;
+        tables = over.tables;
+        formats = subst (All IsFormat) (sym formats) (All-nil IsFormat);
+        format_lengths = subst (All (λ text. length text ≤ 256)) (sym formats) (All-nil (λ text. length text ≤ 256));
         format_bytes = omega (arith, ap (sum_by length) formats);
-        specials = specials_fit p source program.cells made program is h.specials fit;
+        specials = specials_fit p source h.lines program.cells made program is over.specials fit;
       };
       built = rw size (statements_built b program.cells program.statements fit static);
     }

@@ -1,8 +1,7 @@
 -- What the code answers on the way.
-use Rattle.std.specs.Prelude.{◌≡◌, List, length, All, Option, Some, None, true}
+use Rattle.std.specs.Prelude.{◌≡◌, ℕ, ◌≤◌, List, length, All, Option, Some, None, true}
 use Rattle.std.specs.List.{list_all}
-use Rattle.sil_base.specs.declared.fault_stop.FaultStop.{FaultStop}
-use Rattle.sil_base.specs.declared.fault_stop.FaultStop.TheVariants as below
+use Rattle.layout_params.specs.declared.cell.Cell.{Cell}
 use Rattle.layout_params.specs.Parameters.{Parameters, AreLegal}
 use Rattle.layout_params.specs.Sizes.{packed_16}
 use Rattle.sil_symbols.specs.declared.stmt.Stmt.{Stmt}
@@ -12,17 +11,16 @@ use Rattle.sil_model.specs.declared.program.Specials.{Specials}
 use Rattle.sil_model.specs.declared.program.Statement.{Statement}
 use Rattle.sil_model.specs.Memory.{FitsCell}
 use Rattle.sil_model.specs.Start.{limits_of}
-use Rattle.sil_model.specs.WellFormed.{FitsOption}
+use Rattle.sil_model.specs.WellFormed.{FitsOption, IsTable}
+use Rattle.syntax_tables.specs.declared.saying.Said.{Said}
+use Rattle.sil_base.specs.declared.limits.TheConstants.{MAX_TABLES}
+use Rattle.sil_symbols.specs.Resolved.{Resolves}
+use Rattle.sil_check.specs.declared.bound.BoundSource.{BoundSource}
 use Rattle.sil_check.specs.declared.stop.CheckStop.{CheckStop}
 use Rattle.sil_check.specs.declared.stop.CheckStop.TheVariants as stop
-use Rattle.sil_check.specs.Arguments.{FitsNumber}
+use Rattle.sil_check.specs.Arguments.{FitsArg, Scope, scope_of}
 use Rattle.sil_check.specs.Programs.{program_over, is_static_program}
 use Rattle.sil_check.specs.Verdicts.{is_built_statement}
-
--- a stop of the crates below
-abbrev pub stop_below : FaultStop → CheckStop
-stop_below (below.Faults faults) = stop.Faults faults
-stop_below below.Memory = stop.Memory
 
 -- a stop where this is made, if anything is: want of memory, or nothing is made
 abbrev pub IsUnmade : {A : Type 0} → Option A → CheckStop → Type 0
@@ -30,9 +28,17 @@ IsUnmade made (stop.Faults faults) = ⊥
 IsUnmade made stop.NotBuilt = made ≡ None
 IsUnmade made stop.Memory = Unit {0}
 
--- each place and each number that is an operand has 64 bits
-abbrev pub HasFitNumbers : Statement → Type 0
-HasFitNumbers s = All FitsNumber s.args
+-- the symbols are those of the source
+abbrev pub IsResolved : BoundSource → Type 0
+IsResolved source = Resolves source.params.now source.statements.now source.symbols.now
+
+-- what its names stand for
+abbrev pub scope_in : BoundSource → Scope
+scope_in source = scope_of source.params.now source.statements.now source.tables.now
+
+-- each operand fits, where there are so many tables
+abbrev pub HasFitArgs : ℕ → Statement → Type 0
+HasFitArgs count s = All (FitsArg count) s.args
 
 -- so has each place that is a special symbol
 pub record HasFitPlaces (specials : Specials) : Type 0 where
@@ -41,15 +47,23 @@ pub record HasFitPlaces (specials : Specials) : Type 0 where
   pub head : FitsOption specials.head
   pub tail : FitsOption specials.tail
 
--- the program of a source that was checked, over its cells
-pub record IsProgramOf (p : Parameters) (source : List Stmt) (program : Program) : Type 0 where
+-- a program that was made of a source and of the lines of a tables file, over these cells
+pub record IsMadeOf (p : Parameters) (source : List Stmt) (lines : List Said) (cells : List Cell) (program : Program) : Type 0 where
   pub legal : AreLegal p
   pub standard : p.settings.sizes ≡ packed_16
+  pub cells_are : program.cells ≡ cells
+  pub args : All (HasFitArgs (length program.tables)) program.statements
+  pub tables : All (IsTable (length program.tables)) program.tables
+  pub table_count : length program.tables ≤ MAX_TABLES
+  pub specials : HasFitPlaces program.specials
+  pub made : program_over p source lines cells ≡ Some program
+  pub static : is_static_program p.settings.sizes.descr program ≡ true
+
+-- the program of a source and of a tables file that were checked
+pub record IsProgramOf (p : Parameters) (source : List Stmt) (program : Program) : Type 0 where
+  pub lines : List Said
+  pub made : IsMadeOf p source lines program.cells program
   pub limits : IsWithinLimits p source
   pub built : list_all is_built_statement source ≡ true
   pub fit : All (FitsCell (limits_of p.settings)) program.cells
   pub count : length program.cells ≡ (extent p source).cells
-  pub numbers : All HasFitNumbers program.statements
-  pub specials : HasFitPlaces program.specials
-  pub made : program_over p source program.cells ≡ Some program
-  pub static : is_static_program p.settings.sizes.descr program ≡ true

@@ -2,6 +2,7 @@ pub mod Statements
 pub mod Shapes
 pub mod Standard
 pub mod Arguments
+pub mod Tables
 pub mod Specials
 pub mod Programs
 pub mod Verdicts

@@ -1,52 +1,53 @@
 -- The program of statements.
-use Rattle.std.specs.Prelude.{ℕ, List, [], ◌∷◌, length, Option, Some, option_map, ℤ, if◌then◌else◌, Bool}
+use Rattle.std.specs.Prelude.{ℕ, List, [], ◌∷◌, length, Option, Some, option_map, if◌then◌else◌, Bool}
 use Rattle.std.specs.List.{list_all}
 use Rattle.layout_params.specs.declared.cell.Cell.{Cell}
 use Rattle.layout_params.specs.Parameters.{Parameters}
 use Rattle.layout_params.specs.Sizes.{value_limit}
 use Rattle.sil_macros.specs.Rows.{row}
-use Rattle.sil_operands.specs.declared.expr.Term.{Term}
 use Rattle.sil_symbols.specs.declared.stmt.Stmt.{Stmt}
 use Rattle.sil_symbols.specs.Symbols.{value_of, value_of_name}
+use Rattle.syntax_tables.specs.declared.saying.Said.{Said}
+use Rattle.syntax_tables.specs.Tables.{tables_of}
 use Rattle.data_asm.specs.Cells.{static_cells_of}
 use Rattle.sil_model.specs.declared.program.Arg.{Arg}
 use Rattle.sil_model.specs.declared.program.Program.{Program}
 use Rattle.sil_model.specs.declared.program.Statement.{Statement}
-use Rattle.sil_check.specs.Arguments.{args_of, and_before, is_static}
+use Rattle.sil_check.specs.Arguments.{Scope, scope_of, args_of, and_before, is_static}
 use Rattle.sil_check.specs.Specials.{specials_of}
 
 abbrev pub statement_with : Stmt → List Arg → Statement
 statement_with s args = record { card = s.card; name = s.name; args = args }
 
 -- an executable statement, as the machine takes it
-abbrev pub machine_statement : (List Term → Option ℤ) → Stmt → Option Statement
-machine_statement values s = option_map (statement_with s) (args_of values (row s.name).places s.operands)
+abbrev pub machine_statement : Scope → Stmt → Option Statement
+machine_statement scope s = option_map (statement_with s) (args_of scope (row s.name).places s.operands)
 
 -- the executable statements in order, where each of them has its operands
-abbrev pub machine_statements : (List Term → Option ℤ) → List Stmt → Option (List Statement)
-machine_statements values [] = Some []
-machine_statements values (s ∷ statements) =
+abbrev pub machine_statements : Scope → List Stmt → Option (List Statement)
+machine_statements scope [] = Some []
+machine_statements scope (s ∷ statements) =
     if (row s.name).assembly
-    then machine_statements values statements
-    else and_before (machine_statement values s) (machine_statements values statements)
+    then machine_statements scope statements
+    else and_before (machine_statement scope s) (machine_statements scope statements)
 
--- the program of these executable statements and static cells
-abbrev pub program_with : Parameters → List Stmt → List Cell → List Statement → Program
-program_with p source cells statements = record {
+-- the program of these executable statements and static cells, and of the lines of a tables file
+abbrev pub program_with : Parameters → List Stmt → List Said → List Cell → List Statement → Program
+program_with p source lines cells statements = record {
   statements = statements;
   cells = cells;
-  tables = [];
+  tables = tables_of (value_of p source) lines;
   formats = [];
   specials = specials_of p.settings.sizes.descr (length statements) (value_limit p.settings.sizes) (value_of_name p source);
 }
 
-abbrev pub program_over : Parameters → List Stmt → List Cell → Option Program
-program_over p source cells =
-    option_map (program_with p source cells) (machine_statements (value_of p source) source)
+abbrev pub program_over : Parameters → List Stmt → List Said → List Cell → Option Program
+program_over p source lines cells =
+    option_map (program_with p source lines cells) (machine_statements (scope_of p source lines) source)
 
--- the program of a source
-unfoldable pub program_of : Parameters → List Stmt → Option Program
-program_of p source = program_over p source (static_cells_of p source)
+-- the program of a source and of the lines of a tables file
+unfoldable pub program_of : Parameters → List Stmt → List Said → Option Program
+program_of p source lines = program_over p source lines (static_cells_of p source)
 
 -- each place that is an operand is the address of a static descriptor
 abbrev pub is_static_statement : ℕ → List Cell → Statement → Bool

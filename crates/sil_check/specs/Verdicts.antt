@@ -12,6 +12,10 @@ use Rattle.sil_cards.specs.CardParts.{CardParts}
 use Rattle.sil_symbols.specs.declared.stmt.Stmt.{Stmt}
 use Rattle.sil_symbols.specs.Rules.{faults_of}
 use Rattle.data_asm.specs.Faults.{data_faults}
+use Rattle.sil_base.specs.declared.fault_stop.FaultStop.{FaultStop}
+use Rattle.sil_base.specs.declared.fault_stop.FaultStop.TheVariants as below
+use Rattle.syntax_tables.specs.declared.saying.Said.{Said}
+use Rattle.syntax_tables.specs.Files.{written_of}
 use Rattle.sil_model.specs.declared.program.Program.{Program}
 use Rattle.sil_model.specs.Built.{is_built}
 use Rattle.sil_check.specs.declared.stop.CheckStop.{CheckStop}
@@ -19,6 +23,7 @@ use Rattle.sil_check.specs.declared.stop.CheckStop.TheVariants as stop
 use Rattle.sil_check.specs.Shapes.{fits}
 use Rattle.sil_check.specs.Standard.{is_standard}
 use Rattle.sil_check.specs.Statements.{statements_of}
+use Rattle.sil_check.specs.Tables.{table_faults}
 use Rattle.sil_check.specs.Programs.{program_of, is_static_program}
 
 -- the macros of the assembly but FORMAT
@@ -34,9 +39,10 @@ is_built_macro name = is_assembled name || is_built name
 abbrev pub is_built_statement : Stmt → Bool
 is_built_statement s = is_built_macro s.name && fits s.name s.operands
 
-abbrev pub is_none : {A : Type 0} → List A → Bool
-is_none [] = true
-is_none (x ∷ xs) = false
+-- a stop of the crates below
+abbrev pub stop_below : FaultStop → CheckStop
+stop_below (below.Faults faults) = stop.Faults faults
+stop_below below.Memory = stop.Memory
 
 -- the faults that there are; without one, the answer that follows
 abbrev pub unless_faults : List Fault → Result Program CheckStop → Result Program CheckStop
@@ -53,14 +59,25 @@ abbrev pub made : ℕ → Option Program → Result Program CheckStop
 made size (Some program) = if_built (is_static_program size program) (Ok program)
 made size None = Err stop.NotBuilt
 
--- what is answered for a source, without want of memory: faults of symbols, then of data, then the program
+-- what is answered for the lines of a tables file; a fault of their form hides all others of tables
+abbrev pub with_lines : Result (List Said) FaultStop → (List Said → Result Program CheckStop) → Result Program CheckStop
+with_lines (Ok lines) go = go lines
+with_lines (Err stop) go = Err (stop_below stop)
+
+-- what is answered for a source and the lines of a tables file, where all before them is in order: faults of tables, then the program
+abbrev pub verdict_with : Parameters → List Stmt → List Said → Result Program CheckStop
+verdict_with p source lines =
+    unless_faults (table_faults p source lines)
+    (if_built (is_standard p.settings.sizes)
+    (made p.settings.sizes.descr (program_of p source lines)))
+
+-- what is answered for a source and a tables file, without want of memory: faults of symbols, then of data, then of tables, then the program
 abbrev pub verdict_of : Parameters → List Stmt → List ℕ → Result Program CheckStop
 verdict_of p source tables =
     unless_faults (faults_of p source)
     (if_built (list_all is_built_statement source)
     (unless_faults (data_faults p source)
-    (if_built (is_none tables && is_standard p.settings.sizes)
-    (made p.settings.sizes.descr (program_of p source)))))
+    (with_lines (written_of tables) (verdict_with p source))))
 
 -- the same, for the cards of a source
 abbrev pub verdict : List CardParts → List ℕ → Parameters → Result Program CheckStop

@@ -2,6 +2,7 @@
 #![tactic(auto)]
 
 mod arguments;
+mod bound;
 mod places;
 mod program;
 mod shapes;
@@ -10,6 +11,7 @@ mod specials;
 mod standard;
 mod statements;
 mod stop;
+mod tables;
 
 pub use shapes::fits;
 pub use source::check;

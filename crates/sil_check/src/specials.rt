@@ -1,13 +1,12 @@
 // The special symbols.
 ghost use Rattle.std.specs.Prelude.{◌≡◌, ◌<◌, option_and_then};
 ghost use Rattle.layout_params.specs.Sizes.{value_limit};
-ghost use Rattle.sil_symbols.specs.Resolved.{Resolves};
 ghost use Rattle.sil_symbols.specs.Symbols.{value_of_name};
 ghost use Rattle.sil_model.specs.WellFormed.{FitsOption};
-ghost use Rattle.sil_check.specs.Held.{HasFitPlaces};
+ghost use Rattle.sil_check.specs.Held.{HasFitPlaces, IsResolved};
 ghost use Rattle.sil_check.specs.Specials.{statement_at, number_within, specials_of};
 
-use crate::arguments::Source;
+use crate::bound::BoundSource;
 use layout_params::Layout;
 use sil_base::FIRST_ENTRY;
 use sil_model::Specials;
@@ -35,8 +34,8 @@ fn number_within(limit: u64, value: i64) -> Option<u64>
 
 /// The value of a name.
 #[tactic(auto, using(crate::proofs::Resolved::resolved_name))]
-fn value_of(source: &Source<'_>, name: &[u8]) -> Option<i64>
-    requires { Resolves source.now.params.now source.now.statements.now source.now.symbols.now }
+fn value_of(source: &BoundSource<'_>, name: &[u8]) -> Option<i64>
+    requires { IsResolved source.now }
     ensures value { result ≡ value_of_name source.now.params.now source.now.statements.now name.now }
     ensures fits { FitsOption result }
 {
@@ -44,8 +43,8 @@ fn value_of(source: &Source<'_>, name: &[u8]) -> Option<i64>
 }
 
 /// The statement, of so many, whose entry is the value of a name.
-fn statement_named(source: &Source<'_>, name: &[u8], count: u32) -> Option<u32>
-    requires { Resolves source.now.params.now source.now.statements.now source.now.symbols.now }
+fn statement_named(source: &BoundSource<'_>, name: &[u8], count: u32) -> Option<u32>
+    requires { IsResolved source.now }
     ensures { result ≡ option_and_then (statement_at source.now.params.now.settings.sizes.descr count)
         (value_of_name source.now.params.now source.now.statements.now name.now) }
 {
@@ -56,8 +55,8 @@ fn statement_named(source: &Source<'_>, name: &[u8], count: u32) -> Option<u32>
 }
 
 /// The value of a name, where a V field may hold it.
-fn number_named(source: &Source<'_>, name: &[u8]) -> Option<u64>
-    requires { Resolves source.now.params.now source.now.statements.now source.now.symbols.now }
+fn number_named(source: &BoundSource<'_>, name: &[u8]) -> Option<u64>
+    requires { IsResolved source.now }
     ensures { result ≡ option_and_then (number_within (value_limit source.now.params.now.settings.sizes))
         (value_of_name source.now.params.now source.now.statements.now name.now) }
 {
@@ -68,8 +67,8 @@ fn number_named(source: &Source<'_>, name: &[u8]) -> Option<u64>
 }
 
 /// The special symbols of a source with so many executable statements.
-pub(crate) fn specials_of(source: &Source<'_>, count: u32) -> Specials
-    requires { Resolves source.now.params.now source.now.statements.now source.now.symbols.now }
+pub(crate) fn specials_of(source: &BoundSource<'_>, count: u32) -> Specials
+    requires { IsResolved source.now }
     ensures value { result ≡ specials_of source.now.params.now.settings.sizes.descr count
         (value_limit source.now.params.now.settings.sizes)
         (value_of_name source.now.params.now source.now.statements.now) }

@@ -36,7 +36,7 @@ impl<T: Drop> From<AllocFailed<T>> for CheckStop {
 }
 
 impl From<FaultStop> for CheckStop {
-    ghost use Rattle.sil_check.specs.Held.{stop_below};
+    ghost use Rattle.sil_check.specs.Verdicts.{stop_below};
 
     ghost from_gives = { λ stop e. e ≡ stop_below stop };
 

@@ -1,5 +1,5 @@
 -- What the check of cards gives to the installer, and how it stops a command.
-use Rattle.std.proofs.Common.{◌≡◌, [], false, refl, Ok, Err}
+use Rattle.std.proofs.Common.{◌≡◌, false, refl, Ok, Err}
 use Rattle.std.specs.declared.result.Result.{Result}
 use Rattle.layout_params.specs.Sizes.{packed_16}
 use Rattle.layout_params.specs.Parameters.{Settings}
@@ -15,8 +15,8 @@ use Rattle.sil_cli.specs.Endings.{stop_by, is_free}
 use Rattle.sil_cli.specs.Inputs.{Job, on_result}
 
 -- a checked program can be emitted
-pub can-emit : (settings : Settings) (p : Program) → IsWellFormed p settings → settings.sizes ≡ packed_16 → p.tables ≡ [] → AreBuilt settings.sizes.descr p → CanEmit p settings
-can-emit settings p well same none built = record { well_formed = well; standard = same; no_tables = none; built = built }
+pub can-emit : (settings : Settings) (p : Program) → IsWellFormed p settings → settings.sizes ≡ packed_16 → AreBuilt settings.sizes.descr p → CanEmit p settings
+can-emit settings p well same built = record { well_formed = well; standard = same; built = built }
 
 stop-of : (answer : Result Program CheckStop) (go : Program → Result Job Stop) (s : CheckStop) → IsStopFor answer s → is_free (stop_by s) ≡ false → on_result answer go (λ e. Err (stop_by e)) ≡ Err (stop_by s)
 stop-of answer go (check.Faults faults) h free = rw h refl

@@ -59,6 +59,7 @@ fn program_of(
     params: &Params,
 ) -> Result<Program, Stop>
     requires few { length cards.items ≤ MAX_CARDS }
+    requires short { length tables.now ≤ MAX_FILE_BYTES }
     requires good { AreCards cards.items }
     ensures told { MatchResult result
         (λ p. job_of params.now tables.now cards.items
@@ -74,6 +75,7 @@ fn program_of(
 #[tactic(auto, unfolding(crate::specs::Inputs::job_in))]
 pub fn make_job(alloc: Global, inputs: Inputs) -> Result<Job, Stop>
     requires short { length inputs.params.items ≤ MAX_FILE_BYTES }
+    requires short_tables { length inputs.tables.items ≤ MAX_FILE_BYTES }
     requires read { AreRead inputs.source }
     ensures told { MatchResult result
         (λ j. job_in (inputs_by inputs) ≡ Ok (job_by j))
@@ -95,6 +97,7 @@ pub fn make_job(alloc: Global, inputs: Inputs) -> Result<Job, Stop>
 /// The bytes of an image of the program of these inputs.
 pub fn build(alloc: Global, inputs: Inputs) -> Result<Vec<u8>, Stop>
     requires short { length inputs.params.items ≤ MAX_FILE_BYTES }
+    requires short_tables { length inputs.tables.items ≤ MAX_FILE_BYTES }
     requires read { AreRead inputs.source }
     ensures told { MatchResult result
         (λ image. IsOkAnd (job_in (inputs_by inputs))

@@ -59,6 +59,7 @@ pub fn load_inputs<S: Store>(
         (λ inputs. inputs_of (order_by order.now) files ≡ Ok (inputs_by inputs))
         (λ e. is_free e ≡ false → inputs_of (order_by order.now) files ≡ Err e)) }
     ensures short { IfOk result (λ inputs. length inputs.params.items ≤ MAX_FILE_BYTES) }
+    ensures short_tables { IfOk result (λ inputs. length inputs.tables.items ≤ MAX_FILE_BYTES) }
     ensures read { IfOk result (λ inputs. AreRead inputs.source) }
     ensures kept { S.files store.new ≡ S.files store.old }
     ensures count { S.faults store.old ≤ S.faults store.new }

@@ -83,3 +83,7 @@ abbrev pub SpellsFormat : List ℕ → List Item → Type 0
 SpellsFormat bytes items =
     (front : List ℕ) × (inside : List ℕ) × (back : List ℕ) × (bytes ≡ front ++ 40 ∷ (inside ++ 41 ∷ back))
     × IsTrue (are_blanks front) × SpellsInside inside items × IsTrue (are_blanks back)
+
+-- bytes that spell a format
+abbrev pub IsFormat : List ℕ → Type 0
+IsFormat bytes = (items : List Item) × SpellsFormat bytes items

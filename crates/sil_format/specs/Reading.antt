@@ -1,6 +1,6 @@
 -- The format of bytes, as a function: items are read one after another. That it reads just what the grammar spells is
 -- proved.
-use Rattle.std.specs.Prelude.{◌≡◌, ℕ, zero, suc, List, [], ◌∷◌, length, take, drop, Option, Some, None, Bool, ◌&&◌, ◌||◌, ◌==◌, nat_le, if◌then◌else◌, option_and_then, Result, MatchResult}
+use Rattle.std.specs.Prelude.{◌≡◌, ℕ, zero, suc, List, [], ◌∷◌, length, take, drop, Option, Some, None, is_some, Bool, ◌&&◌, ◌||◌, ◌==◌, nat_le, if◌then◌else◌, option_and_then, Result, MatchResult}
 use Rattle.std.specs.Option.{option_map}
 use Rattle.sil_format.specs.Grammar.{is_blank, are_blanks, is_digit_or_blank, value_of, is_slash}
 use Rattle.sil_format.specs.declared.format.DataKind.{DataKind}
@@ -119,3 +119,7 @@ opened (c ∷ cs) = if c == 40 then inside_of cs else None
 -- the format of bytes, if they are one
 abbrev pub format_of : List ℕ → Option (List Item)
 format_of bytes = opened (skip_blanks bytes)
+
+-- the test of bytes that spell a format
+unfoldable pub is_format : List ℕ → Bool
+is_format bytes = is_some (format_of bytes)

@@ -1,8 +1,8 @@
 // Laws of formats.
 
-ghost use Rattle.std.specs.Prelude.{◌≡◌, ℕ, ◌<◌, List, [], length, Some};
-ghost use Rattle.sil_format.specs.Grammar.{SpellsFormat};
-ghost use Rattle.sil_format.specs.Reading.{format_of};
+ghost use Rattle.std.specs.Prelude.{◌≡◌, ℕ, ◌<◌, List, [], length, Some, true};
+ghost use Rattle.sil_format.specs.Grammar.{IsFormat, SpellsFormat};
+ghost use Rattle.sil_format.specs.Reading.{format_of, is_format};
 ghost use Rattle.sil_format.specs.Records.{has_data, laid, passes, records_of};
 ghost use Rattle.sil_format.specs.declared.format.Item.{Item};
 ghost use Rattle.sil_format.specs.declared.value.Value.{Value};
@@ -23,6 +23,12 @@ pub fn what_is_spelled_is_read()
 pub fn what_is_read_is_spelled()
     ensures { (bytes : List ℕ) (items : List Item)
         → format_of bytes ≡ Some items → SpellsFormat bytes items }
+{}
+
+/// The test of a format holds of the bytes that spell one, and of no others.
+pub fn law_of_formats()
+    ensures formats { (bytes : List ℕ) → is_format bytes ≡ true → IsFormat bytes }
+    ensures tested { (bytes : List ℕ) → IsFormat bytes → is_format bytes ≡ true }
 {}
 
 /// More passes than there are values lay out the same: the steps never run out.

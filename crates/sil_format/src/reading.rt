@@ -3,14 +3,14 @@ ghost use Rattle.std.specs.Prelude.{◌≡◌, ◌<◌, ◌≤◌, suc, List, le
 ghost use Rattle.std.specs.List.{list_all};
 ghost use Rattle.std.specs.Option.{option_map};
 ghost use Rattle.sil_format.specs.Grammar.{SpellsFormat, is_digit_or_blank, is_slash};
-ghost use Rattle.sil_format.specs.Reading.{Answers, number_at, character_at, decimals_at, kind_at, text_at, item_with, item_at, next_at, items_in, inside_of, opened, format_of};
+ghost use Rattle.sil_format.specs.Reading.{Answers, number_at, character_at, decimals_at, kind_at, text_at, item_with, item_at, next_at, items_in, inside_of, opened, format_of, is_format};
 ghost use Rattle.sil_format.specs.declared.format.FormatStop.TheVariants.{Bad};
 ghost use Rattle.sil_format.specs.declared.format.Item.{Item};
 
 use crate::cutting::{are_blanks, count_in, cut_number, number_in, optional_count_in, skip_blanks};
 use crate::format::{DataKind, Format, FormatStop, Item};
 use sil_base::Record;
-use std::alloc::Global;
+use std::alloc::{AllocError, Global};
 
 /// A number at the front, and what follows it.
 fn number_at(low: u16, high: u16, bytes: &[u8]) -> Option<(u16, &[u8])>
@@ -207,4 +207,16 @@ pub fn read_format(alloc: Global, bytes: &[u8]) -> Result<Format, FormatStop>
     ensures exact { Answers result (format_of bytes.now) }
 {
     opened(alloc, skip_blanks(bytes))
+}
+
+/// Whether bytes spell a format.
+#[tactic(auto, unfolding(crate::specs::Reading::is_format))]
+pub fn is_format(alloc: Global, bytes: &[u8]) -> Result<bool, AllocError>
+    ensures { IfOk result (λ is. is ≡ is_format bytes.now) }
+{
+    match read_format(alloc, bytes) {
+        Ok(_) => Ok(true),
+        Err(FormatStop::Bad) => Ok(false),
+        Err(FormatStop::Memory) => Err(AllocError),
+    }
 }

@@ -1,4 +1,5 @@
 mod Counts
 mod Alike
 mod Entries
+mod TableBytes
 mod Whole

@@ -1,5 +1,5 @@
 -- The image of a program keeps to every limit, is one of the program, and behaves as it.
-use Rattle.std.proofs.Common.{◌≡◌, ℕ, zero, suc, ◌*◌, ◌/◌, ◌%◌, ◌^◌, ◌<◌, ◌≤◌, true, List, [], ◌∷◌, length, map, get_or, All, refl, sym, ap, subst, ◌∙◌, arith}
+use Rattle.std.proofs.Common.{◌≡◌, ℕ, zero, suc, ◌*◌, ◌^◌, ◌<◌, ◌≤◌, List, [], ◌∷◌, length, map, get_or, All, refl, sym, ap, subst, ◌∙◌, arith}
 use Rattle.std.proofs.lemmas.List.{length-map}
 use Rattle.std.proofs.lemmas.List.Concat.{length-flat_map}
 use Rattle.std.specs.List.{flat_map}
@@ -16,13 +16,14 @@ use Rattle.sil_model.specs.Memory.{FitsCell}
 use Rattle.layout_params.specs.Areas.{all_cells}
 use Rattle.sil_model.specs.Start.{limits_of}
 use Rattle.sil_model.specs.Valid.{LawOfSteps}
-use Rattle.image_file.specs.Image.{Image, IsImage, image_of, entry_of, entries_fit}
+use Rattle.image_file.specs.Image.{Image, IsImage, image_of, entry_of}
 use Rattle.sil_model.specs.CellWords.{kind_of}
 use Rattle.rv_emit.specs.Parts.{IsImageOf, table_part}
 use Rattle.rv_emit.specs.Code.{last_place}
 use Rattle.rv_emit.specs.Emits.{CanEmit, Carries, FitsImage}
 use Rattle.rv_emit.proofs.FirstMemory.{length-packed, fits_all_static}
 use Rattle.image_file.specs.Spelling.{spelling}
+use Rattle.sil_install.proofs.TableBytes.{AreTableBytes, tables_fit}
 use Rattle.sil_install.specs.Installed.{Behaves, IsInstalled}
 use Rattle.sil_install.proofs.Alike.{law}
 
@@ -86,7 +87,7 @@ pub record Gathered (program : Program) (settings : Settings) (entries : List (�
   pub texts : constants ≡ flat_map (λ text. text) program.formats
   pub bytes : cells ≡ flat_map (packing settings.sizes) program.cells
   pub marks : kinds ≡ map kind_of program.cells
-  pub none : tables ≡ []
+  pub tabled : tables ≡ flat_map table_part program.tables
 
 module _ (program : Program) (parameters : Parameters) (can : CanEmit program parameters.settings) (entries : List (ℕ × ℕ × Macro)) (words places constants cells kinds tables : List ℕ) (g : Gathered program parameters.settings entries words places constants cells kinds tables) where
   abbrev settings : Settings
@@ -105,8 +106,8 @@ module _ (program : Program) (parameters : Parameters) (can : CanEmit program pa
   packed =
       ap length g.bytes ∙ ap (λ z. length (flat_map (packing z) program.cells)) can.standard ∙ length-packed settings can.standard program.cells (fits_all_static settings can.standard program.cells can.well_formed.cells) ∙ ap (λ z. length program.cells * z.descr) (sym can.standard)
 
-  no_entries : entries_fit (length tables / 4096) (length tables / 16) tables ≡ true
-  no_entries = rw g.none refl
+  table_bytes : AreTableBytes tables
+  table_bytes = tables_fit program.tables tables can.well_formed.table_count can.well_formed.tables g.tabled
 
   pub is_image : IsImage image
   is_image = record {
@@ -118,12 +119,12 @@ module _ (program : Program) (parameters : Parameters) (can : CanEmit program pa
     wide_words = g.fits.wide;
     constants = omega (arith, ap length g.texts, length-texts program.formats, can.well_formed.format_bytes);
     cell_count = subst (λ k. all_cells settings k ≤ 1048576) (sym marked) can.well_formed.cell_count;
-    table_bytes = omega (arith, ap length g.none);
-    whole_tables = ap (λ t. length t % 4096) g.none;
+    table_bytes = table_bytes.few;
+    whole_tables = table_bytes.whole;
     places = g.fits.rise (map entry_of entries) (places_of entries ∙ g.at);
     cells = packed ∙ ap (λ k. k * settings.sizes.descr) (sym marked);
     kinds = subst (All (λ k. k ≤ 1)) (sym g.marks) (kinds_fit program.cells);
-    tables = no_entries;
+    tables = table_bytes.fit;
   }
 
   pub is_of : IsImageOf image program parameters.settings
@@ -134,7 +135,7 @@ module _ (program : Program) (parameters : Parameters) (can : CanEmit program pa
     constants = g.texts;
     cells = g.bytes;
     kinds = g.marks;
-    tables = g.none ∙ ap (flat_map table_part) (sym can.no_tables);
+    tables = g.tabled;
   }
 
   pub behaves : LawOfSteps → Carries program parameters words places (last_place program parameters.settings) → Behaves image program parameters

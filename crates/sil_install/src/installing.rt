@@ -6,6 +6,7 @@ ghost use Rattle.rv_emit.specs.Emits.{CanEmit};
 ghost use Rattle.sil_install.specs.Installed.{Behaves, IsInstalled};
 
 use crate::parts::{entries, kinds, pack_cells};
+use crate::tables::table_bytes;
 use image_file::{Image, write_image};
 use layout_params::Params;
 use rv_emit::{Emitted, emit};
@@ -25,6 +26,7 @@ fn image_of(alloc: Global, program: &Program, params: &Params) -> Result<Image, 
     let entries = entries(alloc, program.statements.items(), emitted.places.items())?;
     let bytes = pack_cells(alloc, params.numbers(), cells)?;
     let kinds = kinds(alloc, cells)?;
+    let tables = table_bytes(alloc, program.tables.items())?;
     let Emitted {
         words,
         places: _,
@@ -37,7 +39,7 @@ fn image_of(alloc: Global, program: &Program, params: &Params) -> Result<Image, 
         constants.into_items(),
         bytes,
         kinds,
-        Vec::new(alloc),
+        tables,
     ) {
         Some(image) => Ok(image),
         None => unreachable!(),

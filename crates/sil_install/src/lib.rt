@@ -4,6 +4,7 @@
 mod installing;
 mod law;
 mod parts;
+mod tables;
 
 pub use installing::install;
 pub use law::law_of_installed_images;

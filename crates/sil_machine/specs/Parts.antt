@@ -22,11 +22,7 @@ state_of k steps p tapes = record {
   tapes = tapes;
 }
 
--- what a call leaves: nothing is said of the memory, or of the state, where it is undefined
-abbrev pub after_flow : Option Flow → Memory → MemoryEffect
-after_flow None m = None
-after_flow (Some flow) m = Some (flow, m)
-
+-- what a call leaves: nothing is said of the state where it is undefined
 abbrev pub left_by : Option Flow → State → Effect
 left_by None s = None
 left_by (Some flow) s = goes flow s

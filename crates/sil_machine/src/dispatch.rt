@@ -6,10 +6,15 @@ ghost use Rattle.sil_model.specs.Prints.{writes_records};
 ghost use Rattle.sil_model.specs.Table.{calls_unit, clause};
 ghost use Rattle.sil_machine.specs.Parts.{Meets, left_by, state_of};
 
-use crate::clauses::{endex, incra, movd};
 use crate::parts::{Parts, Stop};
 use crate::site::Site;
 use sil_base::MAX_STEPS;
+use sil_clauses::{
+    acomp, acompc, adjust, aeql, aeqlc, aeqlic, chkval, decra, deql, divide, endex, getac, getd,
+    getdc, getsiz, incra, incrv, lcomp, leqlc, mnsint, mova, movd, movdic, movv, mult, multc,
+    putac, putd, putdc, putvc, resetf, rsetfi, setac, setav, setf, setfi, setsiz, setva, setvc,
+    subtrt, sum, testf, testfi, vcmpic, veql, veqlc,
+};
 use sil_macros::Macro;
 use sil_model::Flow;
 use unit_io::UnitSet;
@@ -42,9 +47,52 @@ fn perform_alone(name: Macro, site: &Site, steps: u64, parts: &mut Parts) -> Opt
     ensures { (k : ℕ) (tapes : Tapes) → clause name site.now (state_of k steps parts.old tapes) ≡ left_by result (state_of k steps parts.new tapes) }
 {
     match name {
-        Macro::Endex => endex(site.args(), &mut parts.cells),
+        Macro::Acomp => acomp(site.args(), &parts.cells),
+        Macro::Acompc => acompc(site.args(), &parts.cells),
+        Macro::Adjust => adjust(site.args(), &mut parts.cells),
+        Macro::Aeql => aeql(site.args(), &parts.cells),
+        Macro::Aeqlc => aeqlc(site.args(), &parts.cells),
+        Macro::Aeqlic => aeqlic(site.args(), &parts.cells),
+        Macro::Chkval => chkval(site.args(), &parts.cells),
+        Macro::Decra => decra(site.args(), &mut parts.cells),
+        Macro::Deql => deql(site.args(), &parts.cells),
+        Macro::Divide => divide(site.args(), &mut parts.cells),
+        Macro::Endex => endex(site.args(), &parts.cells),
+        Macro::Getac => getac(site.args(), &mut parts.cells),
+        Macro::Getd => getd(site.args(), &mut parts.cells),
+        Macro::Getdc => getdc(site.args(), &mut parts.cells),
+        Macro::Getsiz => getsiz(site.args(), &mut parts.cells),
         Macro::Incra => incra(site.args(), &mut parts.cells),
+        Macro::Incrv => incrv(site.args(), &mut parts.cells),
+        Macro::Lcomp => lcomp(site.args(), &parts.cells),
+        Macro::Leqlc => leqlc(site.args(), &parts.cells),
+        Macro::Mnsint => mnsint(site.args(), &mut parts.cells),
+        Macro::Mova => mova(site.args(), &mut parts.cells),
         Macro::Movd => movd(site.args(), &mut parts.cells),
+        Macro::Movdic => movdic(site.args(), &mut parts.cells),
+        Macro::Movv => movv(site.args(), &mut parts.cells),
+        Macro::Mult => mult(site.args(), &mut parts.cells),
+        Macro::Multc => multc(site.args(), &mut parts.cells),
+        Macro::Putac => putac(site.args(), &mut parts.cells),
+        Macro::Putd => putd(site.args(), &mut parts.cells),
+        Macro::Putdc => putdc(site.args(), &mut parts.cells),
+        Macro::Putvc => putvc(site.args(), &mut parts.cells),
+        Macro::Resetf => resetf(site.args(), &mut parts.cells),
+        Macro::Rsetfi => rsetfi(site.args(), &mut parts.cells),
+        Macro::Setac => setac(site.args(), &mut parts.cells),
+        Macro::Setav => setav(site.args(), &mut parts.cells),
+        Macro::Setf => setf(site.args(), &mut parts.cells),
+        Macro::Setfi => setfi(site.args(), &mut parts.cells),
+        Macro::Setsiz => setsiz(site.args(), &mut parts.cells),
+        Macro::Setva => setva(site.args(), &mut parts.cells),
+        Macro::Setvc => setvc(site.args(), &mut parts.cells),
+        Macro::Subtrt => subtrt(site.args(), &mut parts.cells),
+        Macro::Sum => sum(site.args(), &mut parts.cells),
+        Macro::Testf => testf(site.args(), &parts.cells),
+        Macro::Testfi => testfi(site.args(), &parts.cells),
+        Macro::Vcmpic => vcmpic(site.args(), &parts.cells),
+        Macro::Veql => veql(site.args(), &parts.cells),
+        Macro::Veqlc => veqlc(site.args(), &parts.cells),
         _ => None,
     }
 }

@@ -1,7 +1,6 @@
 // The abstract machine: what each macro does, steps, and runs.
 #![tactic(auto)]
 
-mod clauses;
 mod dispatch;
 mod machine;
 mod parts;

@@ -6,6 +6,7 @@ pub mod Characters
 pub mod ReadingChars
 pub mod AccessProofs
 pub mod Leaves
+pub mod Operands
 pub mod ClauseLaws
 pub mod Runs
 pub mod Steady

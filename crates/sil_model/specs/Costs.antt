@@ -3,7 +3,7 @@ use Rattle.std.specs.Prelude.{ℕ, ◌+◌, ◌*◌, List, [], ◌∷◌, length
 use Rattle.sil_base.specs.declared.limits.TheConstants.{STATEMENT_INSTRUCTIONS, VISIT_INSTRUCTIONS}
 use Rattle.layout_params.specs.Parameters.{Settings, Parameters}
 use Rattle.sil_macros.specs.declared.names.Macro.{Macro}
-use Rattle.sil_macros.specs.declared.names.Macro.TheVariants.{Endex, Incra, Movd}
+use Rattle.sil_macros.specs.declared.names.Macro.TheVariants.{Acomp, Acompc, Adjust, Aeql, Aeqlc, Aeqlic, Chkval, Decra, Deql, Divide, Endex, Getac, Getd, Getdc, Getsiz, Incra, Incrv, Lcomp, Leqlc, Mnsint, Mova, Movd, Movdic, Movv, Mult, Multc, Putac, Putd, Putdc, Putvc, Resetf, Rsetfi, Setac, Setav, Setf, Setfi, Setsiz, Setva, Setvc, Subtrt, Sum, Testf, Testfi, Vcmpic, Veql, Veqlc}
 use Rattle.sil_model.specs.declared.program.Arg.{Arg}
 use Rattle.sil_model.specs.declared.program.Arg.TheVariants.{Places, Gotos}
 use Rattle.sil_model.specs.declared.program.Program.{Program}
@@ -23,9 +23,52 @@ operand_count (arg ∷ args) = item_count arg + operand_count args
 
 -- the visits that a clause makes to cells, characters, table entries and links
 abbrev pub visits : Macro → Site → State → ℕ
+visits Acomp site s = 2
+visits Acompc site s = 1
+visits Adjust site s = 4
+visits Aeql site s = 2
+visits Aeqlc site s = 1
+visits Aeqlic site s = 2
+visits Chkval site s = 3
+visits Decra site s = 2
+visits Deql site s = 2
+visits Divide site s = 3
 visits Endex site s = 1
+visits Getac site s = 3
+visits Getd site s = 4
+visits Getdc site s = 3
+visits Getsiz site s = 3
 visits Incra site s = 2
+visits Incrv site s = 2
+visits Lcomp site s = 2
+visits Leqlc site s = 1
+visits Mnsint site s = 2
+visits Mova site s = 2
 visits Movd site s = 2
+visits Movdic site s = 4
+visits Movv site s = 2
+visits Mult site s = 3
+visits Multc site s = 2
+visits Putac site s = 3
+visits Putd site s = 4
+visits Putdc site s = 3
+visits Putvc site s = 3
+visits Resetf site s = 2
+visits Rsetfi site s = 3
+visits Setac site s = 1
+visits Setav site s = 2
+visits Setf site s = 2
+visits Setfi site s = 3
+visits Setsiz site s = 3
+visits Setva site s = 2
+visits Setvc site s = 1
+visits Subtrt site s = 3
+visits Sum site s = 3
+visits Testf site s = 1
+visits Testfi site s = 2
+visits Vcmpic site s = 3
+visits Veql site s = 2
+visits Veqlc site s = 1
 visits _ site s = 0
 
 unfoldable pub weight : Program → Parameters → Statement → State → ℕ

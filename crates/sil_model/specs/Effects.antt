@@ -18,6 +18,12 @@ onward o = do
   m ← o
   Some (Next, m)
 
+-- goes where it leads
+abbrev pub leads : Flow → Option Memory → MemoryEffect
+leads flow o = do
+  m ← o
+  Some (flow, m)
+
 -- how a statement goes: it is defined; or undefined once something was changed; or a unit failed; or it calls a unit that doesn't tell its tape
 pub data Way : Type 0 where
   On : Flow → Way

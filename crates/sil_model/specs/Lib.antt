@@ -8,7 +8,10 @@ pub mod Arguments
 pub mod Sites
 pub mod States
 pub mod Effects
-pub mod Clauses
+pub mod FlowClauses
+pub mod DescriptorClauses
+pub mod ComparisonClauses
+pub mod IntegerClauses
 pub mod Table
 pub mod Start
 pub mod Machine

@@ -3,6 +3,7 @@ use Rattle.std.specs.Prelude.{◌≡◌, ℕ, ◌^◌, ◌<◌, ◌≤◌, lengt
 use Rattle.std.specs.Int.{w64}
 use Rattle.layout_params.specs.Parameters.{Settings, AreLegalSettings}
 use Rattle.layout_params.specs.Sizes.{value_limit}
+use Rattle.sil_format.specs.Grammar.{IsFormat}
 use Rattle.sil_model.specs.declared.program.Program.{Program}
 use Rattle.sil_model.specs.declared.table.Action.{Action}
 use Rattle.sil_model.specs.declared.table.Action.TheVariants.{Goto}
@@ -42,7 +43,7 @@ pub record AreSpecials (program : Program) (settings : Settings) : Type 0 where
   pub int_code : IfSome program.specials.int_code (λ v. v ≤ value_limit settings.sizes)
   pub needed : All (λ s. has_needed program.specials s.name ≡ true) program.statements
 
--- at most 16,384 statements that fit their rows, 1,048,576 cells in all, 256 tables, and format texts of at most 256 bytes each and 2,097,152 together
+-- at most 16,384 statements that fit their rows, 1,048,576 cells in all, 256 tables, and texts that are formats, of at most 256 bytes each and 2,097,152 together
 pub record IsWellFormed (program : Program) (settings : Settings) : Type 0 where
   pub legal : AreLegalSettings settings
   pub statements : length program.statements ≤ 2 ^ 14
@@ -51,6 +52,7 @@ pub record IsWellFormed (program : Program) (settings : Settings) : Type 0 where
   pub cell_count : all_cells settings (length program.cells) ≤ 2 ^ 20
   pub table_count : length program.tables ≤ 256
   pub tables : All (IsTable (length program.tables)) program.tables
-  pub formats : All (λ text. length text ≤ 256) program.formats
+  pub formats : All IsFormat program.formats
+  pub format_lengths : All (λ text. length text ≤ 256) program.formats
   pub format_bytes : sum_by length program.formats ≤ 2097152
   pub specials : AreSpecials program settings

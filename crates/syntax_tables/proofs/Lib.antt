@@ -3,3 +3,4 @@ pub mod Lists
 pub mod Readings
 pub mod Filled
 pub mod Counts
+pub mod NumberLemmas

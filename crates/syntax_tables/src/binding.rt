@@ -11,20 +11,20 @@ ghost use Rattle.syntax_tables.specs.Tables.{goes_astray, lacks_value, broken_by
 
 use crate::reading::TableStop;
 use crate::rule::{Move, Rule};
-use crate::saying::{Said, Saying};
-use crate::tables::tables_in;
-use crate::written::{Written, table_named};
-use sil_base::{Fault, FaultStop, Items, MAX_TABLES, Record, TABLES_FILE, fault_at};
+use crate::saying::Saying;
+use crate::tables::tables_of;
+use crate::written::Written;
+use sil_base::{Fault, FaultStop, Items, MAX_TABLES, TABLES_FILE, fault_at};
 use sil_model::Table;
 use sil_operands::Expr;
 use sil_symbols::Symbols;
 use std::alloc::{AllocError, Global};
 
-fn goes_astray(names: &[Record], action: &Move) -> bool
-    ensures { result ≡ goes_astray names.now action.now }
+fn goes_astray(written: &Written, action: &Move) -> bool
+    ensures { result ≡ goes_astray (names_in written.now) action.now }
 {
     match action {
-        Move::Goto(name) => table_named(names, name.bytes()).is_none(),
+        Move::Goto(name) => written.find(name.bytes()).is_none(),
         Move::Contin | Move::Stop | Move::Stopsh | Move::Error => false,
     }
 }
@@ -38,10 +38,10 @@ fn lacks_value(symbols: &Symbols, put: &Option<Expr>) -> bool
     }
 }
 
-fn broken_by_rule(symbols: &Symbols, names: &[Record], rule: &Rule) -> Option<u8>
-    ensures { result ≡ broken_by_rule (expression_value symbols.now) names.now rule.now }
+fn broken_by_rule(symbols: &Symbols, written: &Written, rule: &Rule) -> Option<u8>
+    ensures { result ≡ broken_by_rule (expression_value symbols.now) (names_in written.now) rule.now }
 {
-    if goes_astray(names, &rule.action) {
+    if goes_astray(written, &rule.action) {
         Some(5)
     } else if lacks_value(symbols, &rule.put) {
         Some(6)
@@ -50,19 +50,20 @@ fn broken_by_rule(symbols: &Symbols, names: &[Record], rule: &Rule) -> Option<u8
     }
 }
 
-/// Whether one of so many names is this one.
-fn is_before(names: &[Record], count: usize, name: &[u8]) -> bool
-    requires { count ≤ length names.now }
-    ensures { result ≡ list_any (is_word name.now) (take count names.now) }
+/// Whether one of the first so many tables has this name.
+fn is_before(written: &Written, count: usize, name: &[u8]) -> bool
+    ensures { result ≡ list_any (is_word name.now) (take count (names_in written.now)) }
 {
-    names[..count].iter().any(|other| name == other.bytes())
+    match written.first(name) {
+        Some(first) => first < count,
+        None => false,
+    }
 }
 
-fn broken_by_name(names: &[Record], count: usize, name: &[u8]) -> Option<u8>
-    requires { count ≤ length names.now }
-    ensures { result ≡ broken_by_name names.now count name.now }
+fn broken_by_name(written: &Written, count: usize, name: &[u8]) -> Option<u8>
+    ensures { result ≡ broken_by_name (names_in written.now) count name.now }
 {
-    if is_before(names, count, name) {
+    if is_before(written, count, name) {
         Some(3)
     } else if count == MAX_TABLES {
         Some(4)
@@ -72,13 +73,12 @@ fn broken_by_name(names: &[Record], count: usize, name: &[u8]) -> Option<u8>
 }
 
 /// The least rule that a line breaks, after so many tables.
-fn broken_by(symbols: &Symbols, names: &[Record], count: usize, saying: &Saying) -> Option<u8>
-    requires { count ≤ length names.now }
-    ensures { result ≡ broken_by (expression_value symbols.now) names.now count saying.now }
+fn broken_by(symbols: &Symbols, written: &Written, count: usize, saying: &Saying) -> Option<u8>
+    ensures { result ≡ broken_by (expression_value symbols.now) (names_in written.now) count saying.now }
 {
     match saying {
-        Saying::Begin(name) => broken_by_name(names, count, name.bytes()),
-        Saying::For(_, rule) | Saying::Else(rule) => broken_by_rule(symbols, names, rule),
+        Saying::Begin(name) => broken_by_name(written, count, name.bytes()),
+        Saying::For(_, rule) | Saying::Else(rule) => broken_by_rule(symbols, written, rule),
         Saying::End(_) => None,
     }
 }
@@ -95,19 +95,13 @@ fn push_fault(faults: &mut Vec<Fault>, line: u32, rule: Option<u8>) -> Result<()
 
 /// The lines that break a rule.
 #[tactic(auto, unfolding(crate::specs::Tables::faults_of))]
-fn faults_of(
-    alloc: Global,
-    symbols: &Symbols,
-    names: &[Record],
-    lines: &[Said],
-) -> Result<Vec<Fault>, AllocError>
-    requires { names.now ≡ names_in lines.now }
-    ensures { IfOk result (λ v. v.items ≡ faults_of (expression_value symbols.now) lines.now) }
+fn faults_of(alloc: Global, symbols: &Symbols, written: &Written) -> Result<Vec<Fault>, AllocError>
+    ensures { IfOk result (λ v. v.items ≡ faults_of (expression_value symbols.now) written.now) }
 {
     let mut faults = Vec::new(alloc);
     let mut count = 0;
-    for said in lines {
-        let rule = broken_by(symbols, names, count, &said.saying);
+    for said in written.lines() {
+        let rule = broken_by(symbols, written, count, &said.saying);
         push_fault(&mut faults, said.line, rule)?;
         if let Saying::Begin(_) = &said.saying {
             count += 1;
@@ -121,7 +115,7 @@ fn stop_at_faults(alloc: Global, written: &Written, symbols: &Symbols) -> Result
     ensures faultless { OnOk result (faults_of (expression_value symbols.now) written.now ≡ []) }
     ensures faults { IfErr result (IsStopFor (faults_of (expression_value symbols.now) written.now)) }
 {
-    let faults = faults_of(alloc, symbols, written.names(), written.lines())?;
+    let faults = faults_of(alloc, symbols, written)?;
     if faults.is_empty() {
         Ok(())
     } else {
@@ -132,7 +126,6 @@ fn stop_at_faults(alloc: Global, written: &Written, symbols: &Symbols) -> Result
 /// The tables that a file writes, numbered from 0 in its order. Faults have the letter T: 3 a BEGIN
 /// of a name that an earlier table has, 4 the BEGIN of the 257th table, 5 a GOTO that names no
 /// table, 6 an expression of PUT without a value.
-#[tactic(auto, unfolding(crate::specs::Tables::tables_of))]
 pub fn bind(alloc: Global, written: &Written, symbols: &Symbols) -> Result<Vec<Table>, TableStop>
     ensures tables { IfOk result (λ v. v.items ≡ tables_of (expression_value symbols.now) written.now) }
     ensures count { IfOk result (λ v. length v.items ≡ length (names_in written.now)) }
@@ -142,5 +135,5 @@ pub fn bind(alloc: Global, written: &Written, symbols: &Symbols) -> Result<Vec<T
     ensures faults { IfErr result (IsStopFor (faults_of (expression_value symbols.now) written.now)) }
 {
     stop_at_faults(alloc, written, symbols)?;
-    Ok(tables_in(alloc, symbols, written.names(), written.lines())?)
+    Ok(tables_of(alloc, symbols, written)?)
 }

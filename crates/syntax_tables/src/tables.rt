@@ -3,14 +3,14 @@ ghost use Rattle.std.specs.Prelude.{◌≡◌, ◌==◌, length, All, IfOk, opti
 ghost use Rattle.std.specs.List.{list_any};
 ghost use Rattle.sil_model.specs.WellFormed.{GoesWithin, IsEntry, IsTable};
 ghost use Rattle.sil_symbols.specs.Resolved.{expression_value};
+ghost use Rattle.syntax_tables.specs.Files.{names_in};
 ghost use Rattle.syntax_tables.specs.Sayings.{item_has, class_has};
-ghost use Rattle.syntax_tables.specs.Tables.{rule_at, goto_of, action_of, entry_of, entry_at, table_of, tables_in};
+ghost use Rattle.syntax_tables.specs.Tables.{rule_at, goto_of, action_of, entry_of, entry_at, table_of, tables_of};
 
 use crate::class::Item;
 use crate::rule::{Move, Rule};
 use crate::saying::{Said, Saying};
-use crate::written::table_named;
-use sil_base::Record;
+use crate::written::Written;
 use sil_model::{Action, Entry, Table};
 use sil_operands::Expr;
 use sil_symbols::Symbols;
@@ -65,13 +65,13 @@ fn goto_of(next: Option<u16>) -> Action
     }
 }
 
-fn action_of(names: &[Record], action: &Move) -> Action
-    ensures action { result ≡ action_of names.now action.now }
-    ensures within { GoesWithin (length names.now) result }
+fn action_of(written: &Written, action: &Move) -> Action
+    ensures action { result ≡ action_of (names_in written.now) action.now }
+    ensures within { GoesWithin (length (names_in written.now)) result }
 {
     match action {
         Move::Contin => Action::Contin,
-        Move::Goto(name) => goto_of(table_named(names, name.bytes())),
+        Move::Goto(name) => goto_of(written.find(name.bytes())),
         Move::Stop => Action::Stop,
         Move::Stopsh => Action::Stopsh,
         Move::Error => Action::Error,
@@ -88,13 +88,13 @@ fn put_of(symbols: &Symbols, put: &Option<Expr>) -> Option<i64>
     }
 }
 
-fn entry_of(symbols: &Symbols, names: &[Record], rule: Option<&Rule>) -> Entry
-    ensures entry { result ≡ entry_of (expression_value symbols.now) names.now (option_map (λ r. r.now) rule.entry) }
-    ensures good { IsEntry (length names.now) result }
+fn entry_of(symbols: &Symbols, written: &Written, rule: Option<&Rule>) -> Entry
+    ensures entry { result ≡ entry_of (expression_value symbols.now) (names_in written.now) (option_map (λ r. r.now) rule.entry) }
+    ensures good { IsEntry (length (names_in written.now)) result }
 {
     match rule {
         Some(rule) => Entry {
-            action: action_of(names, &rule.action),
+            action: action_of(written, &rule.action),
             put: put_of(symbols, &rule.put),
         },
         None => Entry {
@@ -106,34 +106,35 @@ fn entry_of(symbols: &Symbols, names: &[Record], rule: Option<&Rule>) -> Entry
 
 /// The table whose BEGIN stands before these lines.
 #[tactic(auto, unfolding(crate::specs::Tables::table_of))]
-fn table_of(symbols: &Symbols, names: &[Record], lines: &[Said]) -> Table
-    ensures table { result ≡ table_of (expression_value symbols.now) names.now lines.now }
-    ensures good { IsTable (length names.now) result }
+fn table_of(symbols: &Symbols, written: &Written, lines: &[Said]) -> Table
+    ensures table { result ≡ table_of (expression_value symbols.now) (names_in written.now) lines.now }
+    ensures good { IsTable (length (names_in written.now)) result }
 {
     let mut entries = [Entry {
         action: Action::Error,
         put: None,
     }; 256];
     for code in 0..256 {
-        entries[code] = entry_of(symbols, names, rule_at(lines, code as u8));
+        entries[code] = entry_of(symbols, written, rule_at(lines, code as u8));
     }
     Table { entries }
 }
 
 /// The tables of lines, in order.
-pub(crate) fn tables_in(
+#[tactic(auto, unfolding(crate::specs::Tables::tables_of))]
+pub(crate) fn tables_of(
     alloc: Global,
     symbols: &Symbols,
-    names: &[Record],
-    lines: &[Said],
+    written: &Written,
 ) -> Result<Vec<Table>, AllocError>
-    ensures tables { IfOk result (λ v. v.items ≡ tables_in (expression_value symbols.now) names.now lines.now) }
-    ensures good { IfOk result (λ v. All (IsTable (length names.now)) v.items) }
+    ensures tables { IfOk result (λ v. v.items ≡ tables_of (expression_value symbols.now) written.now) }
+    ensures good { IfOk result (λ v. All (IsTable (length (names_in written.now))) v.items) }
 {
+    let lines = written.lines();
     let mut tables = Vec::new(alloc);
     for (i, said) in lines.iter().enumerate() {
         if let Saying::Begin(_) = &said.saying {
-            tables.push(table_of(symbols, names, &lines[i + 1..]))?;
+            tables.push(table_of(symbols, written, &lines[i + 1..]))?;
         }
     }
     Ok(tables)

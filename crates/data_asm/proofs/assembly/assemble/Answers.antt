@@ -1,6 +1,5 @@
-use Rattle.std.proofs.Common.{◌≡◌, ◌≤◌, [], length, ap, sym, arith, ◌∙◌}
+use Rattle.std.proofs.Common.{◌≡◌, [], length, ap, sym, arith, ◌∙◌}
 use Rattle.std.proofs.lemmas.Grind.{common_steps}
-use Rattle.data_asm.specs.Cells.{static_cells_of}
 use Rattle.data_asm.proofs.CountLemmas.{static_count, clean}
 use Rattle.data_asm.proofs.assembly.assemble.Goals as goal
 
@@ -14,7 +13,14 @@ static_cells-requires-clause-few c =
 pub static_cells-requires-clause-fit : goal.static_cells-requires-clause-fit
 static_cells-requires-clause-fit c =
     let none : c.in_ok-faults.faults.items ≡ [] = grind (arith, common_steps) in
-    clean c.args.params.now c.args.statements.now (sym c.in_ok-faults.ensures ∙ none)
+    let (fit, formatted) = clean c.args.params.now c.args.statements.now (sym c.in_ok-faults.ensures ∙ none) in
+    fit
+
+pub returns-clause-formats : goal.returns-clause-formats
+returns-clause-formats c =
+    let none : c.in_ok-faults.faults.items ≡ [] = grind (arith, common_steps) in
+    let (fit, formatted) = clean c.args.params.now c.args.statements.now (sym c.in_ok-faults.ensures ∙ none) in
+    formatted
 
 pub returns-clause-count : goal.returns-clause-count
 returns-clause-count c =

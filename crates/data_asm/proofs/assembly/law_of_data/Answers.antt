@@ -1,4 +1,4 @@
-use Rattle.std.proofs.Common.{◌<◌, List, ℕ, ap, sym, subst, ◌∙◌}
+use Rattle.std.proofs.Common.{◌<◌, ℕ, ap, subst, ◌∙◌}
 use Rattle.std.specs.Prelude.{All}
 use Rattle.sil_model.specs.Start.{limits_of}
 use Rattle.sil_symbols.specs.Symbols.{value_of}

@@ -3,15 +3,15 @@ use Rattle.std.specs.List.{All}
 use Rattle.sil_model.specs.WellFormed.{IsTable}
 use Rattle.sil_symbols.specs.Resolved.{expression_value}
 use Rattle.syntax_tables.specs.Files.{names_in}
-use Rattle.syntax_tables.specs.Tables.{faults_of}
+use Rattle.syntax_tables.specs.Tables.{faults_of, tables_of}
 use Rattle.syntax_tables.proofs.Counts.{tables_count, few_names}
 use Rattle.syntax_tables.proofs.binding.bind.Goals as goal
 
 pub returns-clause-count : goal.returns-clause-count
+unfolding tables_of
 returns-clause-count c =
-    ap length c.in_ok-tables_in.ensures.tables
-    ∙ tables_count (expression_value c.args.symbols.now) c.names.result.now c.lines.result.now
-    ∙ ap (λ lines. length (names_in lines)) c.lines.ensures
+    ap length c.in_ok-tables_of.ensures.tables
+    ∙ tables_count (expression_value c.args.symbols.now) (names_in c.args.written.now) c.args.written.now
 
 pub returns-clause-few : goal.returns-clause-few
 unfolding faults_of
@@ -23,5 +23,5 @@ returns-clause-few c =
 
 pub returns-clause-good : goal.returns-clause-good
 returns-clause-good c =
-    let items = c.in_ok-tables_in.field-0.items in
-    subst (λ (n : ℕ). All (IsTable n) items) (ap length c.names.ensures ∙ sym (returns-clause-count c)) c.in_ok-tables_in.ensures.good
+    let items = c.in_ok-tables_of.field-0.items in
+    subst (λ (n : ℕ). All (IsTable n) items) (sym (returns-clause-count c)) c.in_ok-tables_of.ensures.good

@@ -1,0 +1,167 @@
+// Rows of the macros on integers.
+use crate::row::Op::{D, L, N};
+use crate::row::Row;
+use sil_macros::Macro;
+use sil_model::Flow;
+
+/// Each macro on integers at the edges of 64 bits.
+pub static INTEGERS: [Row; 22] = [
+    Row {
+        name: Macro::Sum,
+        ops: &[D(0), D(1), D(2), L(Some(1)), L(Some(2))],
+        before: &[(0, 9, 8, 7), (1, i64::MAX, 0, 0), (2, 1, 0, 0)],
+        flow: Some(Flow::To(1)),
+        after: &[],
+    },
+    Row {
+        name: Macro::Sum,
+        ops: &[D(0), D(1), D(2), L(Some(1)), L(Some(2))],
+        before: &[
+            (0, 9, 8, 7),
+            (1, 9_223_372_036_854_775_806, 1, 2),
+            (2, 1, 5, 6),
+        ],
+        flow: Some(Flow::To(2)),
+        after: &[(0, i64::MAX, 1, 2)],
+    },
+    Row {
+        name: Macro::Sum,
+        ops: &[D(0), D(1), D(2), L(Some(1)), L(None)],
+        before: &[(1, i64::MIN, 1, 2), (2, i64::MAX, 0, 0)],
+        flow: Some(Flow::Next),
+        after: &[(0, -1, 1, 2)],
+    },
+    Row {
+        name: Macro::Sum,
+        ops: &[D(4), D(1), D(2), L(Some(1)), L(Some(2))],
+        before: &[(1, 1, 0, 0), (2, 1, 0, 0)],
+        flow: None,
+        after: &[],
+    },
+    Row {
+        name: Macro::Sum,
+        ops: &[D(4), D(1), D(2), L(Some(1)), L(Some(2))],
+        before: &[(1, i64::MAX, 0, 0), (2, 1, 0, 0)],
+        flow: Some(Flow::To(1)),
+        after: &[],
+    },
+    Row {
+        name: Macro::Subtrt,
+        ops: &[D(0), D(1), D(2), L(Some(1)), L(Some(2))],
+        before: &[(1, i64::MIN, 1, 2), (2, 1, 0, 0)],
+        flow: Some(Flow::To(1)),
+        after: &[],
+    },
+    Row {
+        name: Macro::Subtrt,
+        ops: &[D(0), D(1), D(2), L(Some(1)), L(Some(2))],
+        before: &[(1, -1, 1, 2), (2, i64::MAX, 0, 0)],
+        flow: Some(Flow::To(2)),
+        after: &[(0, i64::MIN, 1, 2)],
+    },
+    Row {
+        name: Macro::Mult,
+        ops: &[D(0), D(1), D(2), L(Some(1)), L(Some(2))],
+        before: &[(1, 3_037_000_500, 1, 2), (2, 3_037_000_500, 0, 0)],
+        flow: Some(Flow::To(1)),
+        after: &[],
+    },
+    Row {
+        name: Macro::Mult,
+        ops: &[D(0), D(1), D(2), L(Some(1)), L(Some(2))],
+        before: &[(1, 3_037_000_499, 1, 2), (2, 3_037_000_499, 0, 0)],
+        flow: Some(Flow::To(2)),
+        after: &[(0, 9_223_372_030_926_249_001, 1, 2)],
+    },
+    Row {
+        name: Macro::Mult,
+        ops: &[D(0), D(1), D(2), L(Some(1)), L(Some(2))],
+        before: &[(1, i64::MIN, 1, 2), (2, -1, 0, 0)],
+        flow: Some(Flow::To(1)),
+        after: &[],
+    },
+    Row {
+        name: Macro::Mult,
+        ops: &[D(0), D(1), D(2), L(Some(1)), L(Some(2))],
+        before: &[(1, i64::MIN, 1, 2), (2, 1, 0, 0)],
+        flow: Some(Flow::To(2)),
+        after: &[(0, i64::MIN, 1, 2)],
+    },
+    Row {
+        name: Macro::Divide,
+        ops: &[D(0), D(1), D(2), L(Some(1)), L(Some(2))],
+        before: &[(1, -7, 1, 2), (2, 2, 0, 0)],
+        flow: Some(Flow::To(2)),
+        after: &[(0, -3, 1, 2)],
+    },
+    Row {
+        name: Macro::Divide,
+        ops: &[D(0), D(1), D(2), L(Some(1)), L(Some(2))],
+        before: &[(1, -7, 1, 2), (2, -2, 0, 0)],
+        flow: Some(Flow::To(2)),
+        after: &[(0, 3, 1, 2)],
+    },
+    Row {
+        name: Macro::Divide,
+        ops: &[D(0), D(1), D(2), L(Some(1)), L(Some(2))],
+        before: &[(1, 7, 1, 2), (2, -2, 0, 0)],
+        flow: Some(Flow::To(2)),
+        after: &[(0, -3, 1, 2)],
+    },
+    Row {
+        name: Macro::Divide,
+        ops: &[D(0), D(1), D(2), L(Some(1)), L(Some(2))],
+        before: &[(0, 9, 8, 7), (1, 7, 1, 2), (2, 0, 0, 0)],
+        flow: Some(Flow::To(1)),
+        after: &[],
+    },
+    Row {
+        name: Macro::Divide,
+        ops: &[D(0), D(1), D(2), L(Some(1)), L(Some(2))],
+        before: &[(0, 9, 8, 7), (1, i64::MIN, 1, 2), (2, -1, 0, 0)],
+        flow: Some(Flow::To(1)),
+        after: &[],
+    },
+    Row {
+        name: Macro::Mnsint,
+        ops: &[D(0), D(1), L(Some(1)), L(Some(2))],
+        before: &[(1, i64::MIN, 1, 2)],
+        flow: Some(Flow::To(1)),
+        after: &[],
+    },
+    Row {
+        name: Macro::Mnsint,
+        ops: &[D(0), D(1), L(Some(1)), L(Some(2))],
+        before: &[(1, i64::MAX, 1, 2)],
+        flow: Some(Flow::To(2)),
+        after: &[(0, -9_223_372_036_854_775_807, 1, 2)],
+    },
+    Row {
+        name: Macro::Mnsint,
+        ops: &[D(0), D(0), L(Some(1)), L(Some(2))],
+        before: &[(0, 5, 1, 2)],
+        flow: Some(Flow::To(2)),
+        after: &[(0, -5, 1, 2)],
+    },
+    Row {
+        name: Macro::Multc,
+        ops: &[D(0), D(1), N(2)],
+        before: &[(0, 9, 8, 7), (1, i64::MAX, 1, 2)],
+        flow: Some(Flow::Next),
+        after: &[(0, -2, 0, 0)],
+    },
+    Row {
+        name: Macro::Multc,
+        ops: &[D(0), D(1), N(-3)],
+        before: &[(1, 5, 1, 2)],
+        flow: Some(Flow::Next),
+        after: &[(0, -15, 0, 0)],
+    },
+    Row {
+        name: Macro::Multc,
+        ops: &[D(0), D(4), N(-3)],
+        before: &[],
+        flow: None,
+        after: &[],
+    },
+];

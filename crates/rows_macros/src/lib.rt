@@ -1,0 +1,42 @@
+// Worked rows of the macros on descriptors, comparisons and integers.
+#![tactic(auto)]
+
+mod comparisons;
+mod descriptors;
+mod integers;
+mod row;
+
+use comparisons::COMPARISONS;
+use descriptors::DESCRIPTORS;
+use integers::INTEGERS;
+use row::{Row, holds};
+use std::alloc::Global;
+use std::test::Fail;
+
+/// The number of the first row that doesn't hold.
+fn first_broken(alloc: Global, rows: &[Row]) -> Result<Option<usize>, Fail> {
+    for (i, row) in rows.iter().enumerate() {
+        if !holds(alloc, row)? {
+            return Ok(Some(i));
+        }
+    }
+    Ok(None)
+}
+
+#[test]
+fn macros_on_descriptors_do_what_their_rows_say(rt: HostRuntime) -> Result<(), Fail> {
+    assert_eq!(rt; first_broken(rt.alloc(), &DESCRIPTORS)?, None);
+    Ok(())
+}
+
+#[test]
+fn macros_that_compare_go_where_their_rows_say(rt: HostRuntime) -> Result<(), Fail> {
+    assert_eq!(rt; first_broken(rt.alloc(), &COMPARISONS)?, None);
+    Ok(())
+}
+
+#[test]
+fn macros_on_integers_give_what_their_rows_say(rt: HostRuntime) -> Result<(), Fail> {
+    assert_eq!(rt; first_broken(rt.alloc(), &INTEGERS)?, None);
+    Ok(())
+}

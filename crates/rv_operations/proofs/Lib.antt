@@ -1,0 +1,11 @@
+pub mod Standing
+pub mod Doing
+pub mod Setting
+pub mod Sums
+pub mod OnRegisters
+pub mod Fixing
+pub mod Jumping
+pub mod FieldsRead
+pub mod FieldsWritten
+pub mod CellsWritten
+pub mod Statements

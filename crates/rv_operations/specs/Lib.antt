@@ -1,0 +1,10 @@
+pub mod Homes
+pub mod Tables
+pub mod StandsFor
+pub mod Places
+pub mod Links
+pub mod Codes
+pub mod Routines
+pub mod Sites
+pub mod Does
+pub mod Laws

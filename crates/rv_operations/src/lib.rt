@@ -1,0 +1,15 @@
+// The words of operations of micro code, and what they do on the emulator.
+#![tactic(auto)]
+
+mod calling;
+mod cells;
+mod flow;
+mod laws;
+mod op;
+mod places;
+mod registers;
+mod words;
+
+pub use cells::{load_char, load_field, store_cell, store_char};
+pub use laws::{law_of_cells, law_of_fields, law_of_jumps, law_of_registers, law_of_statements};
+pub use places::{Links, Routines, Site};

@@ -1,0 +1,111 @@
+// The faults of syntax tables.
+ghost use Rattle.std.specs.Prelude.{◌≡◌, ◌++◌, ◌≤◌, [], length, All, IfOk, IfErr, OnOk};
+ghost use Rattle.sil_base.specs.Faults.{IsStopFor};
+ghost use Rattle.sil_model.specs.WellFormed.{IsTable};
+ghost use Rattle.sil_symbols.specs.Symbols.{value_of};
+ghost use Rattle.syntax_tables.specs.Files.{names_in, table_named};
+ghost use Rattle.syntax_tables.specs.Tables.{tables_of};
+ghost use Rattle.sil_check.specs.Arguments.{first_of};
+ghost use Rattle.sil_check.specs.Held.{IsResolved};
+ghost use Rattle.sil_check.specs.Tables.{is_astray, goes_astray, table_rule, operand_faults, table_faults};
+
+use crate::arguments::rest_of;
+use crate::bound::BoundSource;
+use sil_base::{Fault, FaultStop, Items, MAX_TABLES, SOURCE_FILE, fault_at};
+use sil_macros::{Kind, Place, shape};
+use sil_model::Table;
+use sil_operands::{Operand, named_alone};
+use sil_symbols::Stmt;
+use std::alloc::{AllocError, Global};
+use syntax_tables::{Written, bind};
+
+/// Whether an operand in the place of a table is the name of none.
+fn is_astray(tables: &Written, kind: Kind, operand: &Operand) -> bool
+    ensures { result ≡ is_astray (table_named (names_in tables.now)) kind operand.now }
+{
+    match (kind, operand) {
+        (Kind::Table, Operand::Expr(expr)) => match named_alone(expr.terms()) {
+            Some(name) => tables.find(name).is_none(),
+            None => true,
+        },
+        _ => false,
+    }
+}
+
+/// The same of the first operand, or a null one.
+fn first_is_astray(tables: &Written, kind: Kind, operands: &[Operand]) -> bool
+    ensures { result ≡ is_astray (table_named (names_in tables.now)) kind (first_of operands.now) }
+{
+    match operands.first() {
+        Some(operand) => is_astray(tables, kind, operand),
+        None => false,
+    }
+}
+
+/// Whether an operand in one of these places is the name of no table, where it is to name one.
+fn goes_astray(tables: &Written, places: &[Place], operands: &[Operand]) -> bool
+    ensures { result ≡ goes_astray (table_named (names_in tables.now)) places.now operands.now }
+{
+    let Some((place, places)) = places.split_first() else {
+        return false;
+    };
+    first_is_astray(tables, place.kind, operands)
+        || goes_astray(tables, places, rest_of(operands))
+}
+
+/// The rule of tables that a statement breaks.
+fn table_rule(tables: &Written, statement: &Stmt) -> Option<u8>
+    ensures { result ≡ table_rule (table_named (names_in tables.now)) 0 statement.now }
+{
+    let places = shape(statement.name);
+    if goes_astray(tables, places.places(), statement.operands.items()) {
+        Some(7)
+    } else {
+        None
+    }
+}
+
+/// The statements that name no table where they are to name one.
+#[tactic(auto, unfolding(crate::specs::Tables::operand_faults))]
+fn operand_faults(
+    alloc: Global,
+    tables: &Written,
+    statements: &[Stmt],
+) -> Result<Vec<Fault>, AllocError>
+    ensures { IfOk result (λ v. v.items ≡ operand_faults (table_named (names_in tables.now)) statements.now) }
+{
+    let mut faults = Vec::new(alloc);
+    for statement in statements {
+        if let Some(rule) = table_rule(tables, statement) {
+            faults.push(fault_at(SOURCE_FILE, b'T', statement.card, rule))?;
+        }
+    }
+    Ok(faults)
+}
+
+/// The tables of a source, or the faults of its operands and of its tables file.
+pub(crate) fn tables_of(alloc: Global, source: &BoundSource<'_>) -> Result<Vec<Table>, FaultStop>
+    requires { IsResolved source.now }
+    ensures faultless { OnOk result (table_faults source.now.params.now source.now.statements.now source.now.tables.now ≡ []) }
+    ensures tables { IfOk result (λ v. v.items ≡ tables_of (value_of source.now.params.now source.now.statements.now) source.now.tables.now) }
+    ensures good { IfOk result (λ v. All (IsTable (length v.items)) v.items) }
+    ensures count { IfOk result (λ v. length v.items ≡ length (names_in source.now.tables.now)) }
+    ensures few { IfOk result (λ v. length v.items ≤ MAX_TABLES) }
+    ensures faults { IfErr result (IsStopFor (table_faults source.now.params.now source.now.statements.now source.now.tables.now)) }
+{
+    let mut faults = operand_faults(alloc, source.tables, source.statements)?;
+    match bind(alloc, source.tables, source.symbols) {
+        Ok(tables) => {
+            if faults.is_empty() {
+                Ok(tables)
+            } else {
+                Err(FaultStop::Faults(Items::of(faults)))
+            }
+        }
+        Err(FaultStop::Faults(more)) => {
+            faults.extend_from_slice(more.items())?;
+            Err(FaultStop::Faults(Items::of(faults)))
+        }
+        Err(FaultStop::Memory) => Err(FaultStop::Memory),
+    }
+}

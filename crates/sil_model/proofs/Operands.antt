@@ -1,0 +1,125 @@
+-- Operands within their bounds lead to statements and fit; so do the results of arithmetic.
+use Rattle.std.proofs.Common.{◌≡◌, ℕ, ◌≤◌, ◌<◌, ◌^◌, Bool, true, false, List, Option, Some, None, ℤ, pos, negsuc, zero, suc, refl, sym, subst, arith, rules}
+use Rattle.std.proofs.Math.Facts.{sfits_to_z}
+use Rattle.std.specs.Prelude.{All, FitsSigned, cond, int_lt, slice_get, int_div, ◌==◌, bit_and}
+use Rattle.std.specs.Int.{w64}
+use Rattle.std.proofs.lemmas.Option.{same_Some}
+use Rattle.layout_params.specs.declared.cell.Descr.{Descr as Descriptor}
+use Rattle.sil_model.specs.declared.program.Arg.{Arg}
+use Rattle.sil_model.specs.declared.program.Arg.TheVariants.{Absent, Place, Number, Flag, Goto, Table, Key, Format, Places, Gotos}
+use Rattle.sil_model.specs.declared.program.Flow.{Flow}
+use Rattle.sil_model.specs.Access.{◌>>=◌, descr_at, a_at, v_at}
+use Rattle.sil_model.specs.Arguments.{as_number, as_goto, flow_to, number_at, goto_at}
+use Rattle.sil_model.specs.ComparisonClauses.{by_order, by_equality, by_sameness, by_flags}
+use Rattle.sil_model.specs.DescriptorClauses.{integer_alone}
+use Rattle.sil_model.specs.Effects.{MemoryEffect, leads}
+use Rattle.sil_model.specs.Fits.{Bounds, IsWithin}
+use Rattle.sil_model.specs.Integers.{◌⊟◌, wrapped_difference, wrapped_product, in_range}
+use Rattle.sil_model.specs.IntegerClauses.{deliver, quotient}
+use Rattle.sil_model.specs.Memory.{Memory, IsMemory, FitsDescr}
+use Rattle.sil_model.proofs.Keeps.{Keeps, LeadsWithin, Writes, all_at, fits_descr_at, keeps_here, writes_set_descr}
+
+-- ---- locations and numbers
+
+argument_leads : (b : Bounds) (arg : Arg) (flow : Flow) → IsWithin b arg → as_goto arg ≡ Some flow → LeadsWithin b.statements flow
+argument_leads b (Goto None) flow w is = subst (LeadsWithin b.statements) (same_Some (flow_to None) flow is) tt
+argument_leads b (Goto (Some k)) flow w is = subst (LeadsWithin b.statements) (same_Some (flow_to (Some k)) flow is) (omega (arith, w))
+argument_leads b Absent flow w is = cc
+argument_leads b (Place at) flow w is = cc
+argument_leads b (Number n) flow w is = cc
+argument_leads b (Flag f) flow w is = cc
+argument_leads b (Table t) flow w is = cc
+argument_leads b (Key k) flow w is = cc
+argument_leads b (Format t) flow w is = cc
+argument_leads b (Places t) flow w is = cc
+argument_leads b (Gotos t) flow w is = cc
+
+found_leads : (b : Bounds) (args : List Arg) (i : ℕ) (o : Option Arg) (flow : Flow) → All (IsWithin b) args → slice_get args i ≡ o → (o >>= as_goto) ≡ Some flow → LeadsWithin b.statements flow
+found_leads b args i None flow w e is = cc
+found_leads b args i (Some arg) flow w e is = argument_leads b arg flow (all_at (IsWithin b) args i arg w e) is
+
+pub goto_leads : (b : Bounds) (args : List Arg) (i : ℕ) (flow : Flow) → All (IsWithin b) args → goto_at args i ≡ Some flow → LeadsWithin b.statements flow
+goto_leads b args i flow w is = found_leads b args i (slice_get args i) flow w refl is
+
+argument_fits : (b : Bounds) (arg : Arg) (n : ℤ) → IsWithin b arg → as_number arg ≡ Some n → FitsSigned w64 n
+argument_fits b (Number n) m w is = subst (FitsSigned w64) (same_Some n m is) w
+argument_fits b (Goto location) n w is = cc
+argument_fits b Absent n w is = cc
+argument_fits b (Place at) n w is = cc
+argument_fits b (Flag f) n w is = cc
+argument_fits b (Table t) n w is = cc
+argument_fits b (Key k) n w is = cc
+argument_fits b (Format t) n w is = cc
+argument_fits b (Places t) n w is = cc
+argument_fits b (Gotos t) n w is = cc
+
+found_fits : (b : Bounds) (args : List Arg) (i : ℕ) (o : Option Arg) (n : ℤ) → All (IsWithin b) args → slice_get args i ≡ o → (o >>= as_number) ≡ Some n → FitsSigned w64 n
+found_fits b args i None n w e is = cc
+found_fits b args i (Some arg) n w e is = argument_fits b arg n (all_at (IsWithin b) args i arg w e) is
+
+pub number_fits : (b : Bounds) (args : List Arg) (i : ℕ) (n : ℤ) → All (IsWithin b) args → number_at args i ≡ Some n → FitsSigned w64 n
+number_fits b args i n w is = found_fits b args i (slice_get args i) n w refl is
+
+chosen_leads : (last : ℕ) (c : Bool) (x y : Flow) → LeadsWithin last x → LeadsWithin last y → LeadsWithin last (cond c x y)
+chosen_leads last true x y h k = h
+chosen_leads last false x y h k = k
+
+pub order_leads : (last : ℕ) (x y : ℤ) (greater equal less : Flow) → LeadsWithin last greater → LeadsWithin last equal → LeadsWithin last less → LeadsWithin last (by_order x y greater equal less)
+order_leads last x y greater equal less g e l = chosen_leads last (int_lt y x) greater _ g (chosen_leads last (int_lt x y) less equal l e)
+
+pub sameness_leads : (last : ℕ) (x y : Descriptor) (unequal equal : Flow) → LeadsWithin last unequal → LeadsWithin last equal → LeadsWithin last (by_sameness x y unequal equal)
+sameness_leads last x y unequal equal u e =
+    order_leads last x.a y.a unequal _ unequal u
+    (order_leads last (pos x.f) (pos y.f) unequal _ unequal u (order_leads last (pos x.v) (pos y.v) unequal equal unequal u e u) u) u
+
+pub flags_lead : (last f flags : ℕ) (lacking having : Flow) → LeadsWithin last lacking → LeadsWithin last having → LeadsWithin last (by_flags f flags lacking having)
+flags_lead last f flags lacking having l h = chosen_leads last (bit_and f flags == flags) having lacking h l
+
+-- ---- fields and results
+
+fits_a_of : (m : Memory) (at a : ℤ) (o : Option Descriptor) → IsMemory m → descr_at m at ≡ o → (o >>= (λ d. Some d.a)) ≡ Some a → FitsSigned w64 a
+fits_a_of m at a None h e is = cc
+fits_a_of m at a (Some d) h e is = subst (FitsSigned w64) (same_Some d.a a is) (fits_descr_at m at d h e).0
+
+pub fits_a_at : (m : Memory) (at a : ℤ) → IsMemory m → a_at m at ≡ Some a → FitsSigned w64 a
+fits_a_at m at a h is = fits_a_of m at a (descr_at m at) h refl is
+
+fits_v_of : (m : Memory) (at : ℤ) (v : ℕ) (o : Option Descriptor) → IsMemory m → descr_at m at ≡ o → (o >>= (λ d. Some d.v)) ≡ Some v → v ≤ m.limits.value_limit
+fits_v_of m at v None h e is = cc
+fits_v_of m at v (Some d) h e is = subst (λ n. n ≤ m.limits.value_limit) (same_Some d.v v is) (fits_descr_at m at d h e).2
+
+pub fits_value_alone : (m : Memory) (at : ℤ) (v : ℕ) → IsMemory m → v_at m at ≡ Some v → FitsDescr m.limits (integer_alone (pos v))
+fits_value_alone m at v h is = (omega (arith, fits_v_of m at v (descr_at m at) h refl is, h.limits.values), omega arith, omega arith)
+
+-- what wraps fits
+pub difference_fits : (x y : ℤ) → FitsSigned w64 (x ⊟ y)
+unfolding wrapped_difference
+difference_fits x y = sfits_to_z (search rules)
+
+product_fits : (x y : ℤ) → FitsSigned w64 (wrapped_product x y)
+unfolding wrapped_product
+product_fits x y = sfits_to_z (search rules)
+
+pub fits_product_alone : (m : Memory) (x y : ℤ) → FitsDescr m.limits (integer_alone (wrapped_product x y))
+fits_product_alone m x y = (product_fits x y, omega arith, omega arith)
+
+-- what is in range fits
+pub range_fits : (z a : ℤ) → in_range z ≡ Some a → FitsSigned w64 a
+unfolding in_range
+range_fits (pos n) a is = grind (arith, is)
+range_fits (negsuc n) a is = grind (arith, is)
+
+pub quotient_fits : (x y a : ℤ) → quotient x y ≡ Some a → FitsSigned w64 a
+quotient_fits x (pos zero) a is = cc
+quotient_fits x (pos (suc n)) a is = range_fits (int_div x (pos (suc n))) a is
+quotient_fits x (negsuc n) a is = range_fits (int_div x (negsuc n)) a is
+
+keeps_leads : (last : ℕ) (m : Memory) (flow : Flow) (o : Option Memory) → LeadsWithin last flow → Writes m o → Keeps last m (leads flow o)
+unfolding Keeps Writes
+keeps_leads last m flow None l h = tt
+keeps_leads last m flow (Some m') l h = (l, h)
+
+pub keeps_deliver : (last : ℕ) (m : Memory) (d1 : ℤ) (d : Descriptor) (o : Option ℤ) (failure success : Flow) → IsMemory m → LeadsWithin last failure → LeadsWithin last success → FitsDescr m.limits d →
+    ((a : ℤ) → o ≡ Some a → FitsSigned w64 a) → Keeps last m (deliver m d1 d o failure success)
+keeps_deliver last m d1 d None failure success h f s fits range = keeps_here last m failure f h
+keeps_deliver last m d1 d (Some a) failure success h f s fits range = keeps_leads last m success _ s (writes_set_descr m d1 (record d { a = a }) h (range a refl, fits.1, fits.2))
