@@ -4,7 +4,9 @@ ghost use Rattle.layout_params.specs.Parameters.{standard};
 ghost use Rattle.sil_model.specs.FieldBits.{FitsBits};
 ghost use Rattle.sil_model.specs.Start.{limits_of};
 
-use layout_params::{Cell, Descr, Field, ParamStop, Params, STANDARD_PARAMS, read_params, standard_text_is_standard};
+use layout_params::{
+    Cell, Descr, Field, ParamStop, Params, STANDARD_PARAMS, read_params, standard_text_is_standard,
+};
 use sil_model::{Arg, Cells, a_field, f_field, limits_of, number, place, set_a_field, v_field};
 use std::alloc::Global;
 use std::test::Fail;

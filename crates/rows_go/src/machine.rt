@@ -129,7 +129,15 @@ fn ending_at(alloc: Global, params: &Params, d: i64) -> Result<Program, AllocErr
         cells: Items::of(vec![in alloc; cell]?),
         tables: Items::of(Vec::new(alloc)),
         formats: Items::of(Vec::new(alloc)),
-        specials: NO_SPECIALS,
+        specials: Specials {
+            over: None,
+            under: None,
+            stype: None,
+            first: None,
+            head: None,
+            tail: None,
+            int_code: None,
+        },
     })
 }
 
@@ -145,59 +153,6 @@ fn addresses_of_no_cell_are_undefined(rt: HostRuntime) -> Result<(), Fail> {
     for (d, end) in rows {
         let program = ending_at(alloc, &params, d)?;
         assert!(rt; ends(alloc, &program, &params, 1, end)?, "{d}");
-    }
-    Ok(())
-}
-
-const NO_SPECIALS: Specials = Specials {
-    over: None,
-    under: None,
-    stype: None,
-    first: None,
-    head: None,
-    tail: None,
-    int_code: None,
-};
-
-/// The program of `MOVD to,from` and `ENDEX to` over a descriptor and a cell of characters.
-#[tactic(auto, using(crate::proofs::Lists::all_two, crate::proofs::Lists::zeros_fit_standard))]
-fn moving(alloc: Global, params: &Params, to: i64, from: i64) -> Result<Program, AllocError>
-    requires standard { params.now ≡ standard }
-    requires legal { AreLegal params.now }
-    ensures { IfOk result (λ p. IsWellFormed p params.now.settings) }
-{
-    let moved = Statement {
-        card: 1,
-        name: Macro::Movd,
-        args: Items::of(vec![in alloc; Arg::Place(to), Arg::Place(from)]?),
-    };
-    let ended = Statement {
-        card: 2,
-        name: Macro::Endex,
-        args: Items::of(vec![in alloc; Arg::Place(to)]?),
-    };
-    let descr = Cell::Descr(Descr { a: 0, f: 0, v: 0 });
-    Ok(Program {
-        statements: Items::of(vec![in alloc; moved, ended]?),
-        cells: Items::of(vec![in alloc; descr, Cell::Chars([0; 64])]?),
-        tables: Items::of(Vec::new(alloc)),
-        formats: Items::of(Vec::new(alloc)),
-        specials: NO_SPECIALS,
-    })
-}
-
-#[test]
-fn characters_are_no_descriptor_until_one_is_written(rt: HostRuntime) -> Result<(), Fail> {
-    let alloc = rt.alloc();
-    let params = standard_params(alloc)?;
-    let (descr, chars) = (0x4000_0000, 0x4000_0010);
-    let rows = [
-        (descr, chars, End::Undefined(0)),
-        (chars, descr, End::Exit(0)),
-    ];
-    for (to, from, end) in rows {
-        let program = moving(alloc, &params, to, from)?;
-        assert!(rt; ends(alloc, &program, &params, 2, end)?, "{to} {from}");
     }
     Ok(())
 }
