@@ -47,10 +47,10 @@ module _ (g : Setting) (c : MicroCode) where
     pub tapes : last.state.tapes ≡ r.tapes
     pub met : met_after (at_statement (place_of c k) u) (met g c fuel) ≡ r.met
 
-  place_here : (k : ℕ) → k ≡ length c.entries → place_of c k ≡ Some (length c.ops)
+  pub place_here : (k : ℕ) → k ≡ length c.entries → place_of c k ≡ Some (length c.ops)
   place_here k e = let yes : (k == length c.entries) ≡ true = grind (arith, nat_tests, e) in ap (λ b. if b then Some (length c.ops) else entry_of c k) yes
 
-  place_there : (k place : ℕ) → k < length c.entries → entry_of c k ≡ Some place → place_of c k ≡ Some place
+  pub place_there : (k place : ℕ) → k < length c.entries → entry_of c k ≡ Some place → place_of c k ≡ Some place
   place_there k place lt e = by_test (k == length c.entries) (λ yes. let same : k ≡ length c.entries = grind (arith, nat_tests, yes) in absurd (omega (arith, same, lt))) (λ no. ap (λ b. if b then Some (length c.ops) else entry_of c k) no ∙ e)
 
   run_one : (place : ℕ) (u : Micro) → run g c 1 place u ≡ and_on (step g c place u) (run g c 0)
@@ -104,7 +104,7 @@ module _ (program : Program) (parameters : Parameters) (c : MicroCode) (x : IsEx
     abbrev p : HasPiece c program.specials k statement
     p = x.each k statement there
 
-    entered : place_of c k ≡ Some p.base
+    pub entered : place_of c k ≡ Some p.base
     entered = place_there g c k p.base (omega (arith, slice_get_within program.statements k statement there, x.statements)) p.entry
 
     first : slice_get c.ops p.base ≡ Some (Begin k)
@@ -122,7 +122,7 @@ module _ (program : Program) (parameters : Parameters) (c : MicroCode) (x : IsEx
         (ap (λ o. met_by g o u) first ∙ ap (λ b. if b then k ∷ [] else []) spent) refl
 
     -- a step is made
-    met_here : (fuel : ℕ) (u : Micro) → nat_lt u.state.steps n ≡ true → way_met g (k + 1) p.piece (suc fuel) 0 u ≡ k ∷ []
+    pub met_here : (fuel : ℕ) (u : Micro) → nat_lt u.state.steps n ≡ true → way_met g (k + 1) p.piece (suc fuel) 0 u ≡ k ∷ []
     met_here fuel u left = (meeting g (k + 1) k p.piece fuel p.is_piece.part p.is_piece.once p.is_piece.begins).beginning u ∙ ap (λ b. if b then k ∷ [] else []) left
 
     arrives : (left fuel : ℕ) (u : Micro) → AllCome left → nat_lt u.state.steps n ≡ true → (w : Way) (s : Step) (cost : ℕ) → way g (k + 1) p.piece fuel 0 u ≡ w → Meets w s cost →
@@ -144,7 +144,7 @@ module _ (program : Program) (parameters : Parameters) (c : MicroCode) (x : IsEx
     arrives left (suc fuel) u all some ways.IsStuck s cost ew meets keeps = absurd meets
     arrives left (suc fuel) u all some ways.Unfinished s cost ew meets keeps = absurd meets
 
-    can_begin : (u : Micro) → IsValid program parameters.settings (at k u.state) → nat_lt u.state.steps n ≡ true → CanBegin g program parameters program.specials k statement.args u
+    pub can_begin : (u : Micro) → IsValid program parameters.settings (at k u.state) → nat_lt u.state.steps n ≡ true → CanBegin g program parameters program.specials k statement.args u
     can_begin u valid some = record {
       setting = record { well_formed = good; symbols = refl; settings = refl; statements = x.statements; static_cells = x.static_cells; formats = x.formats };
       within = (all_at (FitsRow (bounds_of program parameters.settings)) program.statements k statement good.rows there).within;

@@ -8,6 +8,7 @@ ghost use Rattle.sil_model.specs.WellFormed.{IsWellFormed};
 ghost use Rattle.sil_micro.specs.Expands.{Expands};
 ghost use Rattle.sil_micro.specs.Pieces.{weights};
 ghost use Rattle.macro_expand.specs.Expanded.{AreExpanded, IsExpansion, RunsAsTheMachine, is_expanded};
+ghost use Rattle.macro_expand.specs.Steps.{StepsWithinCosts};
 
 use exp_descr::expand_descr;
 use exp_flow::{expand_flow, is_flow};
@@ -17,12 +18,14 @@ use sil_micro::{Code, MAX_PIECE_WEIGHT, law_on_ways};
 use sil_model::{Program, Specials, Statement, law_of_steps};
 use std::alloc::{AllocError, Global};
 
-/// The code of a program, whose runs are the program's runs.
+/// The code of a program: its runs are the program's runs, and each statement's operations weigh no
+/// more than the statement may cost.
 pub fn expand_all(alloc: Global, program: &Program, params: &Params) -> Result<Code, AllocError>
     requires well_formed { IsWellFormed program.now params.now.settings }
     requires built { AreExpanded program.now }
     ensures expansion { IfOk result (λ code. IsExpansion program.now code) }
     ensures runs { IfOk result (λ code. RunsAsTheMachine program.now params.now code) }
+    ensures costs { IfOk result (λ code. StepsWithinCosts program.now params.now code) }
 {
     law_of_steps();
     law_on_ways();

@@ -1,6 +1,7 @@
 use Rattle.std.proofs.Common.{◌≡◌, length, ◌∙◌, sym, ap, arith, subst, refl}
 use Rattle.std.proofs.lemmas.Option.{slice_get_read}
 use Rattle.std.specs.Prelude.{slice_get}
+use Rattle.macro_expand.proofs.Costs.{makes_step}
 use Rattle.macro_expand.proofs.Growing.{SoFar}
 use Rattle.macro_expand.proofs.Running.{runs_to}
 use Rattle.macro_expand.proofs.Stepping.{step, whole}
@@ -17,3 +18,7 @@ returns-clause-expansion c =
 pub returns-clause-runs : goal.returns-clause-runs
 returns-clause-runs c = λ tapes n few.
     runs_to c.args.program.now c.args.params.now c.loop-k.code (returns-clause-expansion c) c.requires.well_formed (c.law_of_steps.ensures c.args.program.now c.args.params.now c.requires.well_formed) c.law_on_ways.ensures.ways c.law_on_ways.ensures.meeting n few tapes
+
+pub returns-clause-costs : goal.returns-clause-costs
+returns-clause-costs c = λ n few k statement u there valid left.
+    makes_step c.args.program.now c.args.params.now c.loop-k.code (returns-clause-expansion c) c.requires.well_formed (c.law_of_steps.ensures c.args.program.now c.args.params.now c.requires.well_formed) c.law_on_ways.ensures.ways c.law_on_ways.ensures.meeting n few k statement there u valid left
