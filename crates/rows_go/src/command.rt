@@ -131,11 +131,7 @@ static REFUSED: [(&[u8], u8, &[u8]); 18] = [
         3,
         b"source 1 A1\nsource 3 A1\n",
     ),
-    (
-        b"X DESCR 0,65536\n MOVD X\n END\n",
-        3,
-        b"source 2 S1\n",
-    ),
+    (b"X DESCR 0,65536\n MOVD X\n END\n", 3, b"source 2 S1\n"),
     (b"L BRANCH L\n END\n", 16, b"not built\n"),
     (b"F FORMAT '(I3)'\n END\n", 16, b"not built\n"),
     (b" ENDEX X+1\nX DESCR\n END\n", 16, b"not built\n"),

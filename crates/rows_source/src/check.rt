@@ -31,14 +31,8 @@ static SOURCES: [(&[u8], Outcome); 25] = [
         Outcome::Broken(3, b'V', 1),
     ),
     (b" MOVD X\nX DESCR\n END\n", Outcome::Broken(1, b'S', 1)),
-    (
-        b" MOVD X,X,X\nX DESCR\n END\n",
-        Outcome::Broken(1, b'S', 1),
-    ),
-    (
-        b" MOVD X,(X)\nX DESCR\n END\n",
-        Outcome::Broken(1, b'S', 1),
-    ),
+    (b" MOVD X,X,X\nX DESCR\n END\n", Outcome::Broken(1, b'S', 1)),
+    (b" MOVD X,(X)\nX DESCR\n END\n", Outcome::Broken(1, b'S', 1)),
     (b" BRANCH X\nX ENDEX Z\nZ DESCR\n END\n", Outcome::NotBuilt),
     (b"F FORMAT '(I3)'\n END\n", Outcome::NotBuilt),
     (b"S STRING\n END\n", Outcome::Broken(1, b'S', 1)),

@@ -66,7 +66,10 @@ static SPECIALS: [Row; 18] = [
     (b" SPCINT X,X\nX SPEC\nI EQU -1\n END\n", b"1 P1;"),
     (b" SPCINT X,X\nX SPEC\nI EQU 4294967296\n END\n", b"1 P1;"),
     (b" SPCINT X,X\nX SPEC\nI EQU 4294967295\n END\n", b""),
-    (b" INIT\n PUSH X\n INIT\nX DESCR\n END\n", b"1 P1;2 P1;3 P1;"),
+    (
+        b" INIT\n PUSH X\n INIT\nX DESCR\n END\n",
+        b"1 P1;2 P1;3 P1;",
+    ),
 ];
 
 /// A source, a tables file, and the lines and rules of the faults.

@@ -106,13 +106,13 @@ pub scope_is : LawOfValues → (p : Parameters) (source : List Stmt) (lines : Li
 scope_is values_fit p source lines b statements tables formats flags = record {
   values = λ terms z h. values_fit p source terms z h;
   locations = λ terms k h.
-    let below : k < executable_count source = statement_below p.settings.sizes.descr (executable_count source) (value_of p source terms) k h in
-    omega (arith, below, statements);
+      let below : k < executable_count source = statement_below p.settings.sizes.descr (executable_count source) (value_of p source terms) k h in
+      omega (arith, below, statements);
   flags = λ terms f h.
-    let below : f ≤ flag_limit p.settings.sizes = number_most (flag_limit p.settings.sizes) (value_of p source terms) f h in
-    omega (arith, below, flags);
+      let below : f ≤ flag_limit p.settings.sizes = number_most (flag_limit p.settings.sizes) (value_of p source terms) f h in
+      omega (arith, below, flags);
   tables = λ name t h.
-    let below : t < length (names_in lines) = table_below (names_in lines) name (position (is_word name) (names_in lines)) t refl h in
-    omega (arith, below, tables);
+      let below : t < length (names_in lines) = table_below (names_in lines) name (position (is_word name) (names_in lines)) t refl h in
+      omega (arith, below, tables);
   texts = λ terms text h. subst (λ (fs : List (List ℕ)). Contains fs text) formats (text_named source (named_alone terms) text h);
 }

@@ -12,10 +12,7 @@ use std::alloc::{AllocError, Global};
 /// no statement's entry (S2) or flags that aren't within their limit (S3), or name no FORMAT where
 /// they are to name one (S4): each once, with its least rule.
 #[tactic(auto, unfolding(crate::specs::Rules::statement_faults))]
-pub fn statement_faults(
-    alloc: Global,
-    source: &Resolution<'_>,
-) -> Result<Vec<Fault>, AllocError>
+pub fn statement_faults(alloc: Global, source: &Resolution<'_>) -> Result<Vec<Fault>, AllocError>
     requires { IsResolution source.now }
     ensures { IfOk result (λ v. v.items ≡ statement_faults source.now.params.now source.now.statements.now) }
 {

@@ -63,7 +63,11 @@ impl Resolution<'_> {
         requires { IsResolution self.now }
         ensures { result ≡ location_of (measure_in self.now) expr.now }
     {
-        statement_at(self.params.numbers().descr(), self.count, self.value_of(expr)?)
+        statement_at(
+            self.params.numbers().descr(),
+            self.count,
+            self.value_of(expr)?,
+        )
     }
 
     /// The flags that an expression is.

@@ -19,12 +19,12 @@ loop-statement-preserved c =
           let items : c.if-not-is_assembly.made.items ≡ made ++ x ∷ [] = ap (λ v. v.items) w.made-is ∙ w.in_ok-push.ensures.items in
           let runs : (row s.name).assembly ≡ false = sym c.is_assembly.ensures ∙ w.if-not-is_assembly.true in
           c.loop-statement.invariant
-              ∙ taken scope source i s made x c.loop-statement-test.true c.statement-item.is runs w.in_ok-machine_statement.ensures
-              ∙ ap (λ xs. after xs (machine_statements scope (drop (i + 1) source))) (sym items)
+          ∙ taken scope source i s made x c.loop-statement-test.true c.statement-item.is runs w.in_ok-machine_statement.ensures
+          ∙ ap (λ xs. after xs (machine_statements scope (drop (i + 1) source))) (sym items)
       | else-not-is_assembly w ↦
           let items : c.if-not-is_assembly.made.items ≡ made = ap (λ v. v.items) w.made-is in
           let passed : (row s.name).assembly ≡ true = sym c.is_assembly.ensures ∙ w.if-not-is_assembly.false in
           c.loop-statement.invariant
-              ∙ ap (after made) (passed_over scope source i s c.loop-statement-test.true c.statement-item.is passed)
-              ∙ ap (λ xs. after xs (machine_statements scope (drop (i + 1) source))) (sym items)
+          ∙ ap (after made) (passed_over scope source i s c.loop-statement-test.true c.statement-item.is passed)
+          ∙ ap (λ xs. after xs (machine_statements scope (drop (i + 1) source))) (sym items)
     ]

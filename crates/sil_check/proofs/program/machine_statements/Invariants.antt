@@ -8,4 +8,4 @@ abbrev pub invariant-loop-statement : goal.invariant-loop-statement
 invariant-loop-statement l =
     let scope = scope_in l.bound in
     machine_statements scope l.bound.source.statements.now
-        ≡ after l.made.items (machine_statements scope (drop l.statement-index l.bound.source.statements.now))
+    ≡ after l.made.items (machine_statements scope (drop l.statement-index l.bound.source.statements.now))

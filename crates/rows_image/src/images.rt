@@ -1,5 +1,5 @@
 // Images, their bytes, and what is none.
-use image_file::{Image, ImageStop, load_image, write_image};
+use image_file::{Image, load_image, write_image};
 use layout_params::{Layout, ParamStop, STANDARD_PARAMS, read_params};
 use sil_macros::Macro;
 use std::alloc::Global;
@@ -28,9 +28,6 @@ static BARE: [(&[u32], &[u8], bool); 3] = [
     (&[], &[], false),
     (&[0], &[0; 16], false),
 ];
-
-/// How many bytes of an image of 196 are kept, its version, and the part that is then refused.
-static BROKEN: [(usize, u8, u8); 4] = [(195, 1, 10), (197, 1, 12), (197, 2, 2), (3, 1, 1)];
 
 /// Two code words, three constants and one static cell
 fn image_of(
@@ -75,23 +72,6 @@ fn an_image_is_written_and_read_again(rt: HostRuntime) -> Result<(), Fail> {
             assert_eq!(rt; image.cell_total(), 167);
         }
         Err(_) => panic!(rt; "an image of its bytes"),
-    }
-    Ok(())
-}
-
-#[test]
-fn bytes_that_are_no_image_are_refused_by_their_part(rt: HostRuntime) -> Result<(), Fail> {
-    let Some(image) = image_of(rt.alloc(), &[FIRST], &[0])? else {
-        panic!(rt; "an image of these parts");
-    };
-    for &(count, version, part) in &BROKEN {
-        let mut bytes = write_image(rt.alloc(), &image)?;
-        bytes.resize(count, 0)?;
-        if let Some(byte) = bytes.get_mut(8) {
-            *byte = version;
-        }
-        let stop = load_image(rt.alloc(), &bytes).err();
-        assert_eq!(rt; stop, Some(ImageStop::Part(part)));
     }
     Ok(())
 }

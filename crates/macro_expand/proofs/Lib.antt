@@ -1,0 +1,5 @@
+mod Growing
+mod Stepping
+mod Running
+mod Costs
+mod Names
