@@ -67,7 +67,8 @@ fn is_built_source(params: &Params, statements: &[Stmt]) -> bool
     ensures sizes { result ≡ true → params.now.settings.sizes ≡ packed_16 }
     ensures built { result ≡ true → list_all is_built_statement statements.now ≡ true }
 {
-    are_built(statements) && is_standard(params)
+    let standard = is_standard(params);
+    are_built(statements) && standard
 }
 
 /// Whether there are none of these faults.

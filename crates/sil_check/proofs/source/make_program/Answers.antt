@@ -10,7 +10,7 @@ returns-in_err-program-clause-verdict c =
     let lines = c.args.bound.now.tables.now in
     let all_built : is_built_source source.params.now source.statements.now ≡ true = sym c.is_built_source.ensures.tested ∙ c.if-not-is_built_source.false in
     let told = stopped source.params.now source.statements.now lines c.args.cells.items c.requires.cells c.in_err-program.field-0.0 all_built c.in_err-program.ensures.program in
-    answers_stop _ c.from_residual-in_err-program.result c.in_err-program.field-0.0 c.from_residual-in_err-program.ensures.1 told
+    answers_stop _ c.from_residual.result c.in_err-program.field-0.0 c.from_residual.ensures.1 told
 
 pub returns-then-not-is_static_program-clause-verdict : goal.returns-then-not-is_static_program-clause-verdict
 returns-then-not-is_static_program-clause-verdict c =
