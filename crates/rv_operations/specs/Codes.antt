@@ -167,9 +167,12 @@ values_code values.None = I Addi 14 0 (pos 0) ∷ I Addi 15 0 (pos 0) ∷ []
 values_code (values.Words count) = U Lui 13 0x6_C000 ∷ I Addi 13 13 (pos 16) ∷ I Addi 14 0 (pos count) ∷ I Addi 15 0 (pos 1) ∷ []
 values_code (values.Chars at len) = moved_to 13 at ∷ moved_to 14 len ∷ I Addi 15 0 (pos 0) ∷ []
 
+abbrev pub call_unit_code : ℕ → ℕ → List Instr
+call_unit_code call to = I Addi 17 0 (pos call) ∷ Ecall ∷ I Addi (home to) 10 (pos 0) ∷ []
+
 abbrev pub unit_call_code : Links → ℕ → ℕ → ℕ → Text → Values → List Instr
 unit_call_code links call unit to text values =
-    moved_to 10 unit ∷ text_code links text ++ values_code values ++ I Addi 17 0 (pos call) ∷ Ecall ∷ I Addi (home to) 10 (pos 0) ∷ []
+    moved_to 10 unit ∷ text_code links text ++ values_code values ++ call_unit_code call to
 
 -- ---- all operations
 
