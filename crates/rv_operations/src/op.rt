@@ -154,15 +154,7 @@ fn append_access<L: Layout>(
 }
 
 /// Appends the instructions of an operation where it stands.
-#[tactic(
-    auto,
-    unfolding(
-        crate::specs::Codes::instructions,
-        rv_straight::specs::Jumps::leap,
-        rv_straight::specs::Jumps::jump_if,
-        rv_straight::specs::Constants::constant
-    )
-)]
+#[tactic(auto, unfolding(crate::specs::Codes::instructions, rv_straight::specs::Jumps::leap, rv_straight::specs::Jumps::jump_if, rv_straight::specs::Constants::constant))]
 pub fn append_op<L: Layout>(
     code: &mut Vec<Instr>,
     layout: &L,
@@ -184,15 +176,13 @@ pub fn append_op<L: Layout>(
             to,
             left,
             right,
-        } => code.extend_from_slice(&[operate(
-            arith_op(kind),
-            home(to),
-            home(left),
-            home(right),
-        )]),
+        } => code.extend_from_slice(&[operate(arith_op(kind), home(to), home(left), home(right))]),
         Op::Jump { .. } => code.extend_from_slice(&leap(28, 0, place, to_place)),
         Op::JumpIf {
-            test, left, right, ..
+            test,
+            left,
+            right,
+            ..
         } => code.extend_from_slice(&jump_if(
             branch_op(test),
             home(left),

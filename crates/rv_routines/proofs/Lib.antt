@@ -10,6 +10,7 @@ pub mod Fitting
 pub mod Opening
 pub mod Characters
 pub mod Below
+pub mod Appended
 pub mod Zeros
 pub mod Making
 pub mod KindBytes
