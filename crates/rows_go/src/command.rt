@@ -159,7 +159,7 @@ static PARAMETERS: [(&[u8], &[u8], &[u8], u8, &[u8]); 7] = [
 
 /// Files in place of others, the status and the notes. A missing copy comes before the fault of the parameters, and
 /// faults of cards before tables.
-static FILES: [(&[(&str, &[u8])], u8, &[u8]); 6] = [
+static FILES: [(&[(&str, &[u8])], u8, &[u8]); 11] = [
     (
         &[("SRC", b" COPY LIB\n"), ("PARAMS", b"?"), ("TABLES", b"?")],
         13,
@@ -175,7 +175,37 @@ static FILES: [(&[(&str, &[u8])], u8, &[u8]); 6] = [
         3,
         b"source 1 C3\n",
     ),
-    (&[("TABLES", b"?")], 16, b"not built\n"),
+    (&[("TABLES", b"?")], 3, b"tables 1 T1\n"),
+    (&[("TABLES", b"FOR(1) STOP")], 3, b"tables 1 T2\n"),
+    (
+        &[(
+            "TABLES",
+            b"BEGIN T\nELSE STOP\nEND T\nBEGIN T\nELSE GOTO(Q)\nEND T\n",
+        )],
+        3,
+        b"tables 4 T3\ntables 5 T5\n",
+    ),
+    (
+        &[(
+            "TABLES",
+            b"BEGIN Z\nFOR(1) PUT(Z) GOTO(Z)\nELSE PUT(Q) STOP\nEND Z\n",
+        )],
+        3,
+        b"tables 3 T6\n",
+    ),
+    (
+        &[(
+            "TABLES",
+            b"BEGIN Z\nFOR(1) PUT(Z) GOTO(Z)\nELSE PUT(DESCR) STOP\nEND Z\n",
+        )],
+        0,
+        b"exit 0\n",
+    ),
+    (
+        &[("SRC", b"L BRANCH L\n END\n"), ("TABLES", b"?")],
+        16,
+        b"not built\n",
+    ),
     (
         &[(
             "SRC",

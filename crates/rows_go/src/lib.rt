@@ -15,3 +15,5 @@ mod machine;
 mod programs;
 #[cfg(test)]
 mod saves;
+#[cfg(test)]
+mod tables;

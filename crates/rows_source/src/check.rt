@@ -59,10 +59,40 @@ static SOURCES: [(&[u8], Outcome); 25] = [
 ];
 
 /// Sources, tables and parameters.
-static OTHERS: [(&[u8], &[u8], &[u8], Outcome); 3] = [
+static OTHERS: [(&[u8], &[u8], &[u8], Outcome); 8] = [
     (
         b" ENDEX Z\nZ DESCR\n END\n",
         b"\n",
+        STANDARD_PARAMS,
+        Outcome::Built,
+    ),
+    (
+        b" ENDEX Z\nZ DESCR\n END\n",
+        b"BEGIN Z\nELSE PUT(Z) GOTO(Z)\nEND Z\n",
+        STANDARD_PARAMS,
+        Outcome::Built,
+    ),
+    (
+        b" ENDEX Z\nZ DESCR\n END\n",
+        b"BEGIN Z\nELSE PUT(T) STOP\nEND Z\n",
+        WIDE_PARAMS,
+        Outcome::Broken(2, b'T', 6),
+    ),
+    (
+        b" ENDEX Z\nZ DESCR\nZ DESCR\n END\n",
+        b"?",
+        STANDARD_PARAMS,
+        Outcome::Broken(3, b'N', 1),
+    ),
+    (
+        b" ENDEX Z\nZ DESCR 0,-1\n END\n",
+        b"?",
+        STANDARD_PARAMS,
+        Outcome::Broken(2, b'A', 1),
+    ),
+    (
+        b" BRANCH Z\nZ DESCR\n END\n",
+        b"?",
         STANDARD_PARAMS,
         Outcome::NotBuilt,
     ),
@@ -141,7 +171,7 @@ fn checked(
 ) -> Result<Program, CheckStop> {
     let mut store = MemoryStore::new(alloc, Vec::new(alloc));
     store.set("SRC", source)?;
-    if params.len() > 2_097_152 {
+    if params.len() > 2_097_152 || tables.len() > 2_097_152 {
         return Err(CheckStop::Memory);
     }
     let Ok(params) = read_params(alloc, params) else {

@@ -1,18 +1,39 @@
 -- The bytes of well formed tables are within the rules of an image.
-use Rattle.std.proofs.Common.{◌≡◌, ℕ, zero, suc, ◌+◌, ◌*◌, ◌/◌, ◌%◌, ◌<◌, ◌≤◌, Bool, true, false, cond, ◌&&◌, ◌==◌, List, [], ◌∷◌, ◌++◌, length, take, drop, Option, Some, None, refl, sym, ap, ◌∙◌, subst, arith, append_assoc, length-append}
-use Rattle.std.specs.Prelude.{All, slice_index, nat_le, nat_lt}
+use Rattle.std.proofs.Common.{◌≡◌, ℕ, ◌*◌, ◌/◌, ◌%◌, ◌<◌, ◌≤◌, Bool, true, ◌&&◌, List, [], ◌∷◌, ◌++◌, length, Option, Some, None, refl, sym, ap, ◌∙◌, arith, append_assoc, length-append, ℤ}
+use Rattle.std.specs.Prelude.{All}
 use Rattle.std.specs.List.{flat_map}
 use Rattle.std.proofs.lemmas.Bool.Decides.{nat_tests}
 use Rattle.std.proofs.lemmas.List.Elements.{All-head, All-tail, All-append, All-nil}
-use Rattle.sil_base.specs.Bytes.{number, low_bytes, piece}
+use Rattle.sil_base.specs.Bytes.{number, low_bytes}
 use Rattle.sil_model.specs.declared.table.Action.{Action}
 use Rattle.sil_model.specs.declared.table.Action.TheVariants.{Contin, Goto, Stop, Stopsh, Error}
 use Rattle.sil_model.specs.declared.table.Entry.{Entry}
 use Rattle.sil_model.specs.declared.table.Table.{Table}
 use Rattle.sil_model.specs.WellFormed.{GoesWithin, IsEntry, IsTable}
 use Rattle.image_file.specs.Image.{entry_fits, entries_fit}
-use Rattle.rv_emit.specs.Parts.{action_number, next_table, put_flag, put_value, table_entry_part, table_part}
+use Rattle.rv_emit.specs.Parts.{table_entry_part, table_part}
+use Rattle.sil_install.specs.TableBytes.{entry_bytes, bytes_of}
 use Rattle.rv_emit.proofs.FirstMemory.{length-tables, long_tables}
+
+-- ---- parts one after another
+
+flat_append : {A B : Type 0} (f : A → List B) (xs ys : List A) → flat_map f (xs ++ ys) ≡ flat_map f xs ++ flat_map f ys
+flat_append f [] ys = refl
+flat_append f (x ∷ xs) ys = ap (λ rest. f x ++ rest) (flat_append f xs ys) ∙ sym (append_assoc (f x) (flat_map f xs) (flat_map f ys))
+
+joined_3 : (old a b c : List ℕ) → ((old ++ a) ++ b) ++ c ≡ old ++ ((a ++ b) ++ c)
+joined_3 old a b c = ap (λ x. x ++ c) (append_assoc old a b) ∙ append_assoc old (a ++ b) c
+
+joined_4 : (old a b c d : List ℕ) → (((old ++ a) ++ b) ++ c) ++ d ≡ old ++ (((a ++ b) ++ c) ++ d)
+joined_4 old a b c d = ap (λ x. x ++ d) (joined_3 old a b c) ∙ append_assoc old ((a ++ b) ++ c) d
+
+joined_5 : (old a b c d e : List ℕ) → ((((old ++ a) ++ b) ++ c) ++ d) ++ e ≡ old ++ ((((a ++ b) ++ c) ++ d) ++ e)
+joined_5 old a b c d e = ap (λ x. x ++ e) (joined_4 old a b c d) ∙ append_assoc old (((a ++ b) ++ c) ++ d) e
+
+-- the parts of an entry are put one after another
+pub entry_put : (old one two three four five : List ℕ) (a b c d e : List ℕ) → one ≡ old ++ a → two ≡ one ++ b → three ≡ two ++ c → four ≡ three ++ d → five ≡ four ++ e → five ≡ old ++ ((((a ++ b) ++ c) ++ d) ++ e)
+entry_put old one two three four five a b c d e h1 h2 h3 h4 h5 =
+    h5 ∙ ap (λ x. x ++ e) (h4 ∙ ap (λ x. x ++ d) (h3 ∙ ap (λ x. x ++ c) (h2 ∙ ap (λ x. x ++ b) h1))) ∙ joined_5 old a b c d e
 
 -- ---- one entry
 
@@ -50,10 +71,6 @@ fit_in_turn count (e ∷ entries) h few =
 abbrev entries_of : List Table → List Entry
 entries_of tables = flat_map (λ table. table.entries) tables
 
-flat_append : {A B : Type 0} (f : A → List B) (xs ys : List A) → flat_map f (xs ++ ys) ≡ flat_map f xs ++ flat_map f ys
-flat_append f [] ys = refl
-flat_append f (x ∷ xs) ys = ap (λ rest. f x ++ rest) (flat_append f xs ys) ∙ sym (append_assoc (f x) (flat_map f xs) (flat_map f ys))
-
 in_entries : (tables : List Table) → flat_map table_part tables ≡ flat_map table_entry_part (entries_of tables)
 in_entries [] = refl
 in_entries (table ∷ tables) = ap (λ rest. table_part table ++ rest) (in_entries tables) ∙ sym (flat_append table_entry_part table.entries (entries_of tables))
@@ -74,6 +91,11 @@ pub record AreTableBytes (bytes : List ℕ) : Type 0 where
   pub few : length bytes ≤ 256 * 4096
   pub whole : length bytes % 4096 ≡ 0
   pub fit : entries_fit (length bytes / 4096) (length bytes / 16) bytes ≡ true
+
+-- the bytes that the code puts are those of the tables
+pub put_tables : (tables : List Table) → flat_map bytes_of tables ≡ flat_map table_part tables
+unfolding bytes_of entry_bytes
+put_tables tables = refl
 
 pub tables_fit : (tables : List Table) (bytes : List ℕ) → length tables ≤ 256 → All (IsTable (length tables)) tables → bytes ≡ flat_map table_part tables → AreTableBytes bytes
 tables_fit tables bytes few good is =

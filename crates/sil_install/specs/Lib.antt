@@ -1,2 +1,3 @@
 pub mod Installed
 pub mod Law
+pub mod TableBytes

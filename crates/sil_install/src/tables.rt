@@ -1,7 +1,9 @@
 // How tables lie in an image: sixteen bytes for each entry.
 ghost use Rattle.std.specs.Prelude.{◌≡◌, ◌++◌, IfOk, OnOk};
 ghost use Rattle.std.specs.List.{flat_map};
-ghost use Rattle.rv_emit.specs.Parts.{action_number, next_table, put_flag, put_value, table_entry_part, table_part};
+ghost use Rattle.sil_base.specs.Bytes.{low_bytes};
+ghost use Rattle.rv_emit.specs.Parts.{action_number, next_table, put_flag, put_value};
+ghost use Rattle.sil_install.specs.TableBytes.{entry_bytes, bytes_of};
 
 use sil_model::{Action, Entry, Table};
 use std::alloc::{AllocError, Global};
@@ -49,31 +51,69 @@ fn put_value(put: Option<i64>) -> u64
     }
 }
 
-/// Appends the bytes of an entry: the action, whether there is a PUT, the next table, four zeros,
-/// and the PUT.
-fn put_entry(bytes: &mut Vec<u8>, entry: &Entry) -> Result<(), AllocError>
-    ensures { OnOk result (bytes.new.items ≡ bytes.old.items ++ table_entry_part entry.now) }
+/// Appends the byte of an action.
+fn put_action(bytes: &mut Vec<u8>, action: Action) -> Result<(), AllocError>
+    ensures { OnOk result (bytes.new.items ≡ bytes.old.items ++ low_bytes 1 (action_number action)) }
 {
-    bytes.extend_from_slice(&action_number(entry.action).to_le_bytes())?;
-    bytes.extend_from_slice(&put_flag(entry.put).to_le_bytes())?;
-    bytes.extend_from_slice(&next_table(entry.action).to_le_bytes())?;
-    bytes.extend_from_slice(&[0; 4])?;
-    bytes.extend_from_slice(&put_value(entry.put).to_le_bytes())
+    bytes.extend_from_slice(&action_number(action).to_le_bytes())
 }
 
-/// Appends the bytes of a table.
-fn put_table(bytes: &mut Vec<u8>, table: &Table) -> Result<(), AllocError>
-    ensures { OnOk result (bytes.new.items ≡ bytes.old.items ++ table_part table.now) }
+/// Appends the byte that tells whether there is a PUT.
+fn put_has_put(bytes: &mut Vec<u8>, put: Option<i64>) -> Result<(), AllocError>
+    ensures { OnOk result (bytes.new.items ≡ bytes.old.items ++ low_bytes 1 (put_flag put)) }
 {
-    for entry in &table.entries {
+    bytes.extend_from_slice(&put_flag(put).to_le_bytes())
+}
+
+/// Appends the two bytes of the next table.
+fn put_next(bytes: &mut Vec<u8>, action: Action) -> Result<(), AllocError>
+    ensures { OnOk result (bytes.new.items ≡ bytes.old.items ++ low_bytes 2 (next_table action)) }
+{
+    bytes.extend_from_slice(&next_table(action).to_le_bytes())
+}
+
+/// Appends the eight bytes of the value of a PUT.
+fn put_put(bytes: &mut Vec<u8>, put: Option<i64>) -> Result<(), AllocError>
+    ensures { OnOk result (bytes.new.items ≡ bytes.old.items ++ low_bytes 8 (put_value put)) }
+{
+    bytes.extend_from_slice(&put_value(put).to_le_bytes())
+}
+
+/// Appends the bytes of an entry: the action, whether there is a PUT, the next table, four zeros,
+/// and the PUT.
+#[tactic(auto, unfolding(crate::specs::TableBytes::entry_bytes))]
+fn put_entry(bytes: &mut Vec<u8>, entry: &Entry) -> Result<(), AllocError>
+    ensures { OnOk result (bytes.new.items ≡ bytes.old.items ++ entry_bytes entry.now) }
+{
+    put_action(bytes, entry.action)?;
+    put_has_put(bytes, entry.put)?;
+    put_next(bytes, entry.action)?;
+    bytes.extend_from_slice(&[0; 4])?;
+    put_put(bytes, entry.put)?;
+    Ok(())
+}
+
+/// Appends the bytes of entries.
+fn put_entries(bytes: &mut Vec<u8>, entries: &[Entry]) -> Result<(), AllocError>
+    ensures { OnOk result (bytes.new.items ≡ bytes.old.items ++ flat_map entry_bytes entries.now) }
+{
+    for entry in entries {
         put_entry(bytes, entry)?;
     }
     Ok(())
 }
 
+/// Appends the bytes of a table.
+#[tactic(auto, unfolding(crate::specs::TableBytes::bytes_of))]
+fn put_table(bytes: &mut Vec<u8>, table: &Table) -> Result<(), AllocError>
+    ensures { OnOk result (bytes.new.items ≡ bytes.old.items ++ bytes_of table.now) }
+{
+    put_entries(bytes, &table.entries)
+}
+
 /// The bytes of tables.
 pub(crate) fn table_bytes(alloc: Global, tables: &[Table]) -> Result<Vec<u8>, AllocError>
-    ensures { IfOk result (λ v. v.items ≡ flat_map table_part tables.now) }
+    ensures { IfOk result (λ v. v.items ≡ flat_map bytes_of tables.now) }
 {
     let mut bytes = Vec::new(alloc);
     for table in tables {

@@ -5,3 +5,6 @@ pub mod Ways
 pub mod Meetings
 pub mod Parts
 pub mod Placing
+pub mod Making
+pub mod Fields
+pub mod Weights

@@ -1,5 +1,5 @@
 -- What the expansion of a statement is to do.
-use Rattle.std.specs.Prelude.{◌≡◌, ℕ, ◌+◌, ◌*◌, ◌≤◌, List, length, nat_lt, IsTrue, Some, slice_get}
+use Rattle.std.specs.Prelude.{◌≡◌, ℕ, ◌+◌, ◌*◌, ◌≤◌, List, length, nat_lt, IsTrue, Some, slice_get, All}
 use Rattle.sil_base.specs.declared.limits.TheConstants.{STATEMENT_INSTRUCTIONS, VISIT_INSTRUCTIONS}
 use Rattle.layout_params.specs.Parameters.{Parameters}
 use Rattle.sil_model.specs.declared.program.Arg.{Arg}
@@ -7,6 +7,7 @@ use Rattle.sil_model.specs.declared.program.Program.{Program}
 use Rattle.sil_model.specs.declared.program.Specials.{Specials}
 use Rattle.sil_model.specs.Costs.{operand_count}
 use Rattle.sil_model.specs.Effects.{Effect}
+use Rattle.sil_model.specs.Fits.{bounds_of, IsWithin}
 use Rattle.sil_model.specs.Machine.{settle}
 use Rattle.sil_model.specs.Sites.{Site}
 use Rattle.sil_model.specs.States.{State, Step, Goes, Ends}
@@ -48,9 +49,10 @@ pub record IsSettingOf (g : Setting) (program : Program) (parameters : Parameter
   pub static_cells : g.static_cells ≡ length program.cells
   pub formats : g.formats ≡ program.formats
 
--- a valid state at statement k with steps left, whatever the registers and the scratch hold
-pub record CanBegin (g : Setting) (program : Program) (parameters : Parameters) (specials : Specials) (k : ℕ) (u : Micro) : Type 0 where
+-- a valid state at statement k with steps left, and operands within the program's bounds, whatever the registers and the scratch hold
+pub record CanBegin (g : Setting) (program : Program) (parameters : Parameters) (specials : Specials) (k : ℕ) (args : List Arg) (u : Micro) : Type 0 where
   pub setting : IsSettingOf g program parameters specials
+  pub within : All (IsWithin (bounds_of program parameters.settings)) args
   pub valid : IsValid program parameters.settings (at k u.state)
   pub left : IsTrue (nat_lt u.state.steps g.bound)
 
@@ -62,7 +64,7 @@ pub record Makes (g : Setting) (next : ℕ) (piece : List Op) (place : ℕ) (u :
 -- from each such state the piece of statement k makes the step of its clause
 abbrev pub Does : ℕ → List Op → Specials → List Arg → (Site → State → Effect) → (Site → State → ℕ) → Type 0
 Does k piece specials args clause visits =
-    (g : Setting) (program : Program) (parameters : Parameters) (u : Micro) → CanBegin g program parameters specials k u →
+    (g : Setting) (program : Program) (parameters : Parameters) (u : Micro) → CanBegin g program parameters specials k args u →
     Makes g (k + 1) piece 0 u (settle (at k u.state) (clause (site_at program parameters k args) (at k u.state))) (cost_at args visits (site_at program parameters k args) (at k u.state))
 
 -- the operations of statement k, in a code of so many statements and formats

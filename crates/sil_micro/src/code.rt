@@ -2,7 +2,7 @@
 ghost use Rattle.std.specs.Prelude.{◌≡◌, ◌+◌, ◌<◌, ◌≤◌, ◌^◌, ◌++◌, IfOk, OnErr, OnOk, IsTrue, length, replicate};
 ghost use Rattle.sil_micro.specs.Codes.{appended, begun, entry_of, no_code, pushed, reserved, return_of, returned};
 ghost use Rattle.sil_micro.specs.Forms.{all_ops, is_op};
-ghost use Rattle.sil_micro.specs.Pieces.{fits_part, is_part, placed, placed_op};
+ghost use Rattle.sil_micro.specs.Pieces.{fits_part, is_part, placed, placed_op, placed_target, target_within};
 
 use crate::op::{Op, Target};
 use sil_base::Record;
@@ -190,22 +190,32 @@ fn moved(base: u32, size: usize, op: Op) -> Op
     ensures rules { IsTrue (is_op result) }
 {
     match op {
-        Op::Jump {
-            to: Target::Op(place),
-        } => Op::Jump {
-            to: Target::Op(base + place),
+        Op::Jump { to } => Op::Jump {
+            to: moved_target(base, size, to),
         },
         Op::JumpIf {
             test,
             left,
             right,
-            to: Target::Op(place),
+            to,
         } => Op::JumpIf {
             test,
             left,
             right,
-            to: Target::Op(base + place),
+            to: moved_target(base, size, to),
         },
+        other => other,
+    }
+}
+
+/// The target of a jump within a piece of that size, where the piece stands at a place.
+fn moved_target(base: u32, size: usize, to: Target) -> Target
+    requires within { IsTrue (target_within size to) }
+    requires room { base + size < 2 ^ 32 }
+    ensures { result ≡ placed_target base to }
+{
+    match to {
+        Target::Op(place) => Target::Op(base + place),
         other => other,
     }
 }

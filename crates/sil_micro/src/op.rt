@@ -1,4 +1,6 @@
 // The micro operations.
+ghost use Rattle.std.specs.Prelude.{◌≡◌};
+ghost use Rattle.sil_micro.specs.Operations.{weight};
 
 use layout_params::Field;
 
@@ -165,4 +167,20 @@ pub enum Op {
     End {
         by: u8,
     },
+}
+
+impl Op {
+    /// The most instructions that the operation becomes, and the most that it runs.
+    pub fn weight(self) -> u64
+        ensures { result ≡ weight self }
+    {
+        match self {
+            Op::Const { .. }
+            | Op::Copy { .. }
+            | Op::Arith { .. }
+            | Op::Jump { .. }
+            | Op::JumpIf { .. } => 8,
+            _ => 28,
+        }
+    }
 }

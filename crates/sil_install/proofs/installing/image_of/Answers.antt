@@ -6,6 +6,7 @@ use Rattle.rv_emit.specs.Parts.{IsImageOf, table_part}
 use Rattle.rv_emit.specs.Emits.{FitsImage, Carries}
 use Rattle.rv_emit.specs.Code.{last_place}
 use Rattle.sil_install.specs.Installed.{Behaves}
+use Rattle.sil_install.proofs.TableBytes.{put_tables}
 use Rattle.sil_install.proofs.Whole.{Gathered, fields_fit, is_image, is_of, behaves}
 use Rattle.sil_install.proofs.installing.image_of.Goals as goal
 
@@ -32,7 +33,7 @@ unreachable-requires c =
       texts = c.into_items-2.ensures ∙ e.constants;
       bytes = c.in_ok-bytes.ensures ∙ ap (λ z. flat_map (packing z) c.items-cells.result.now) c.numbers.ensures.sizes ∙ ap (flat_map (packing c.args.params.now.settings.sizes)) c.items-cells.ensures;
       marks = c.in_ok-kinds.ensures ∙ ap (map kind_of) c.items-cells.ensures;
-      tabled = c.in_ok-tables.ensures ∙ ap (flat_map table_part) c.items-tables.ensures;
+      tabled = c.in_ok-tables.ensures ∙ put_tables c.items-3.result.now ∙ ap (flat_map table_part) c.items-3.ensures;
     } in
     c.in-None.ensures (is_image c.args.program.now c.args.params.now c.requires c.in_ok-entries.entries.items c.into_items.result.items c.in_ok-emitted.emitted.places c.into_items-2.result.items c.in_ok-bytes.bytes.items c.in_ok-kinds.kinds.items c.in_ok-tables.tables.items g)
 
@@ -49,7 +50,7 @@ returns-clause-of c =
       texts = c.into_items-2.ensures ∙ e.constants;
       bytes = c.in_ok-bytes.ensures ∙ ap (λ z. flat_map (packing z) c.items-cells.result.now) c.numbers.ensures.sizes ∙ ap (flat_map (packing c.args.params.now.settings.sizes)) c.items-cells.ensures;
       marks = c.in_ok-kinds.ensures ∙ ap (map kind_of) c.items-cells.ensures;
-      tabled = c.in_ok-tables.ensures ∙ ap (flat_map table_part) c.items-tables.ensures;
+      tabled = c.in_ok-tables.ensures ∙ put_tables c.items-3.result.now ∙ ap (flat_map table_part) c.items-3.ensures;
     } in
     subst (λ i. IsImageOf i c.args.program.now c.args.params.now.settings) (sym c.in-Some.ensures) (is_of c.args.program.now c.args.params.now c.requires c.in_ok-entries.entries.items c.into_items.result.items c.in_ok-emitted.emitted.places c.into_items-2.result.items c.in_ok-bytes.bytes.items c.in_ok-kinds.kinds.items c.in_ok-tables.tables.items g)
 
@@ -66,7 +67,7 @@ returns-clause-behaves c =
       texts = c.into_items-2.ensures ∙ e.constants;
       bytes = c.in_ok-bytes.ensures ∙ ap (λ z. flat_map (packing z) c.items-cells.result.now) c.numbers.ensures.sizes ∙ ap (flat_map (packing c.args.params.now.settings.sizes)) c.items-cells.ensures;
       marks = c.in_ok-kinds.ensures ∙ ap (map kind_of) c.items-cells.ensures;
-      tabled = c.in_ok-tables.ensures ∙ ap (flat_map table_part) c.items-tables.ensures;
+      tabled = c.in_ok-tables.ensures ∙ put_tables c.items-3.result.now ∙ ap (flat_map table_part) c.items-3.ensures;
     } in
     let carries = subst (λ ws. Carries c.args.program.now c.args.params.now ws c.in_ok-emitted.emitted.places (last_place c.args.program.now c.args.params.now.settings)) (sym c.into_items.ensures) e.carries in
     subst (λ i. Behaves i c.args.program.now c.args.params.now) (sym c.in-Some.ensures) (behaves c.args.program.now c.args.params.now c.requires c.in_ok-entries.entries.items c.into_items.result.items c.in_ok-emitted.emitted.places c.into_items-2.result.items c.in_ok-bytes.bytes.items c.in_ok-kinds.kinds.items c.in_ok-tables.tables.items g c.law_of_steps.ensures carries)

@@ -1,0 +1,42 @@
+// The expansion of a statement whose macro is one of descriptors.
+ghost use Rattle.std.specs.Prelude.{◌*◌, ◌<◌, ◌≤◌, OnOk, IsTrue, length};
+ghost use Rattle.sil_macros.specs.Rows.{row};
+ghost use Rattle.sil_model.specs.Costs.{visits};
+ghost use Rattle.sil_model.specs.Fits.{fit};
+ghost use Rattle.sil_model.specs.Table.{clause};
+ghost use Rattle.sil_micro.specs.Expands.{Expands};
+ghost use Rattle.sil_micro.specs.Pieces.{weights};
+ghost use Rattle.exp_descr.specs.Group.{is_descr};
+
+use crate::moves::{incra, movd};
+use sil_base::MAX_STATEMENTS;
+use sil_macros::Macro;
+use sil_micro::{Code, MAX_PIECE_WEIGHT, has_room};
+use sil_model::{Arg, Specials, Statement};
+use std::alloc::{AllocError, Global};
+
+/// Expands statement number `at`. After an error the code may have a part of the statement's
+/// operations.
+#[tactic(auto, unfolding(sil_model::specs::Table::clause))]
+pub fn expand_descr(
+    alloc: Global,
+    statement: &Statement,
+    at: u32,
+    specials: &Specials,
+    code: &mut Code,
+) -> Result<(), AllocError>
+    requires group { IsTrue (is_descr statement.now.name) }
+    requires fits { IsTrue (fit (row statement.now.name).places statement.now.args) }
+    requires number { at < length code.old.entries }
+    requires few { length code.old.entries ≤ MAX_STATEMENTS }
+    requires light { weights code.old.ops ≤ MAX_PIECE_WEIGHT * at }
+    ensures { OnOk result (Expands code.old code.new at specials.now statement.now.args (clause statement.now.name) (visits statement.now.name)) }
+{
+    let _ = alloc;
+    has_room(code, at);
+    match (statement.name, statement.args.items()) {
+        (Macro::Incra, [Arg::Place(d), Arg::Number(n)]) => incra(code, at, specials, *d, *n),
+        (Macro::Movd, [Arg::Place(d1), Arg::Place(d2)]) => movd(code, at, specials, *d1, *d2),
+        _ => unreachable!(),
+    }
+}

@@ -1,0 +1,7 @@
+// The expansions of the macros of flow into micro operations.
+#![tactic(auto)]
+
+mod ends;
+mod expansion;
+
+pub use expansion::expand_flow;
