@@ -9,3 +9,5 @@ pub mod FieldsRead
 pub mod FieldsWritten
 pub mod CellsWritten
 pub mod Statements
+pub mod CharsFound
+pub mod CharOps

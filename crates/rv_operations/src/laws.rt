@@ -1,4 +1,5 @@
 // The laws of operations.
+ghost use Rattle.rv_operations.specs.WordLaws.{LawOfLoadChar, LawOfStoreChar};
 ghost use Rattle.rv_operations.specs.Laws.{LawOfArith, LawOfBegin, LawOfConst, LawOfCopy, LawOfEnd, LawOfJump, LawOfJumpIf, LawOfLoadField, LawOfStoreCell, LawOfStoreField};
 
 /// The words of constants, copies and sums do what the operations do.
@@ -29,4 +30,10 @@ pub fn law_of_cells()
 pub fn law_of_statements()
     ensures begin { LawOfBegin }
     ensures end { LawOfEnd }
+{}
+
+/// The words of loads and stores of characters do what the operations do.
+pub fn law_of_characters()
+    ensures load { LawOfLoadChar }
+    ensures store { LawOfStoreChar }
 {}

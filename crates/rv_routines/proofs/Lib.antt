@@ -16,6 +16,7 @@ pub mod Making
 pub mod KindBytes
 pub mod StateWords
 pub mod FieldLoads
+pub mod CharBytes
 pub mod FieldStores
 pub mod CellStores
 pub mod Calling
