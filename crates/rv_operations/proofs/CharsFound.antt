@@ -129,10 +129,10 @@ set_word_is m z w fits = outer (word_place m z) ∙ word_via m (λ t. Some (with
 
 -- ---- kinds
 
-none_past : (xs : List Cell) (n : ℕ) → nat_lt n (length xs) ≡ false → slice_get xs n ≡ None
+pub none_past : (xs : List Cell) (n : ℕ) → nat_lt n (length xs) ≡ false → slice_get xs n ≡ None
 none_past xs n e = let le : length xs ≤ n = grind arith in slice_get_past xs n le
 
-far_off : (n count : ℕ) → FitsSigned w64 (negsuc n) → count ≤ 2 ^ 20 → nat_lt (2 ^ 64 - suc n) count ≡ false
+pub far_off : (n count : ℕ) → FitsSigned w64 (negsuc n) → count ≤ 2 ^ 20 → nat_lt (2 ^ 64 - suc n) count ≡ false
 far_off n count fits le = let small = fits.sfits in grind arith
 
 -- the number of a cell, where there is one

@@ -11,3 +11,8 @@ pub mod CellsWritten
 pub mod Statements
 pub mod CharsFound
 pub mod CharOps
+pub mod ByteWordOps
+pub mod KindOps
+pub mod ScratchOps
+pub mod StateOps
+pub mod OpRules

@@ -131,7 +131,7 @@ gives_computed Rem v w e small = (ap Some e, small)
 
 -- ---- tests
 
-same_is : (x y : ℤ) → FitsSigned w64 x → FitsSigned w64 y → (cast_unsigned w64 x == cast_unsigned w64 y) ≡ same_integer x y
+pub same_is : (x y : ℤ) → FitsSigned w64 x → FitsSigned w64 y → (cast_unsigned w64 x == cast_unsigned w64 y) ≡ same_integer x y
 same_is (pos a) (pos b) f g = grind arith
 same_is (pos a) (negsuc b) f g = grind (arith, f.sfits, g.sfits)
 same_is (negsuc a) (pos b) f g = grind (arith, f.sfits, g.sfits)
