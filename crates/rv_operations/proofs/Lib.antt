@@ -16,3 +16,4 @@ pub mod KindOps
 pub mod ScratchOps
 pub mod StateOps
 pub mod OpRules
+pub mod OpWords

@@ -1,6 +1,5 @@
 -- The rules of operations give what their emission asks for.
 use Rattle.std.proofs.Common.{◌≡◌, ℕ, zero, suc, ◌+◌, ◌*◌, ◌<◌, ◌≤◌, length, Bool, true, false, ◌&&◌, cond, refl, arith}
-
 use Rattle.layout_params.specs.Sizes.{Sizes}
 use Rattle.layout_params.specs.declared.cell.Field.TheVariants as field
 use Rattle.sil_micro.specs.declared.op.Area.TheVariants as areas
@@ -10,7 +9,6 @@ use Rattle.sil_micro.specs.declared.op.Text.{Text}
 use Rattle.sil_micro.specs.declared.op.Text.TheVariants as text
 use Rattle.sil_micro.specs.declared.op.Values.{Values}
 use Rattle.sil_micro.specs.declared.op.Values.TheVariants as values
-
 use Rattle.rv_straight.proofs.Numbers.{length-constant}
 use Rattle.rv_operations.specs.declared.places.Site.{Site}
 use Rattle.rv_operations.specs.Homes.{home}

@@ -180,8 +180,11 @@ abbrev put : abstract.State → ℤ → Option (ℕ × ℕ) → Option abstract.
 put s w None = Some s
 put s w (Some (i, v)) = Some (set_top s i w)
 
+abbrev picked : Bool → Bool → ℕ → ℕ → Option (Option (ℕ × ℕ))
+picked a b x y = cond a (Some (Some (x, y))) (cond b (Some None) None)
+
 abbrev state_found : ℕ → ℕ → ℕ → Option (Option (ℕ × ℕ))
-state_found x y steps = cond (nat_lt x 2) (Some (Some (x, y))) (cond ((x == 2) && (y == steps)) (Some None) None)
+state_found x y steps = picked (nat_lt x 2) ((x == 2) && (y == steps)) x y
 
 above_two : (n : ℕ) → (nat_lt (suc (suc (suc n))) 2 ≡ false) × ((suc (suc (suc n)) == 2) ≡ false)
 above_two n = (grind arith, grind arith)
@@ -189,7 +192,7 @@ above_two n = (grind arith, grind arith)
 not_two : (n : ℕ) → FitsSigned w64 (negsuc n) → (2 ^ 64 - suc n == 2) ≡ false
 not_two n fits = let small = fits.sfits in grind arith
 
-neither : (a b c : Bool) (x y : ℕ) → a ≡ false → b ≡ false → cond a (Some (Some (x, y))) (cond (b && c) (Some None) None) ≡ None
+neither : (a b c : Bool) (x y : ℕ) → a ≡ false → b ≡ false → picked a (b && c) x y ≡ None
 neither true b c x y e f = absurd cc
 neither false true c x y e f = absurd cc
 neither false false c x y e f = refl
@@ -210,7 +213,7 @@ set_is s (negsuc n) w f g few =
     sym (ap (λ o. option_and_then (put s w) o) (neither (nat_lt (2 ^ 64 - suc n) 2) (2 ^ 64 - suc n == 2) (cast_unsigned w64 w == s.steps) (2 ^ 64 - suc n) (cast_unsigned w64 w) (far_off n 2 (omega arith) f) (not_two n f)))
 
 -- what is found is a word below 2, or none
-some_word : (a b : Bool) (x y : ℕ) (t : Option (ℕ × ℕ)) → cond a (Some (Some (x, y))) (cond b (Some None) None) ≡ Some t → ((a ≡ true) × (t ≡ Some (x, y))) ⊎ (t ≡ None)
+some_word : (a b : Bool) (x y : ℕ) (t : Option (ℕ × ℕ)) → picked a b x y ≡ Some t → ((a ≡ true) × (t ≡ Some (x, y))) ⊎ (t ≡ None)
 some_word true b x y t e = inl (refl, cc)
 some_word false true x y t e = inr cc
 some_word false false x y t e = absurd cc

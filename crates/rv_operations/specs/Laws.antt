@@ -1,9 +1,9 @@
 -- The words of operations do what the operations do.
-use Rattle.std.specs.Prelude.{◌≡◌, ℕ, ◌+◌, ◌-◌, ◌*◌, ◌%◌, ◌^◌, ◌<◌, ◌≤◌, length, false, FitsSigned}
+use Rattle.std.specs.Prelude.{◌≡◌, ℕ, ◌+◌, ◌-◌, ◌*◌, ◌%◌, ◌^◌, ◌<◌, ◌≤◌, length, false, IsTrue, FitsSigned}
 use Rattle.std.specs.Int.{w64}
 use Rattle.layout_params.specs.declared.cell.Field.{Field}
 use Rattle.sil_micro.specs.declared.op.Arith.{Arith}
-use Rattle.layout_params.specs.Sizes.{Sizes}
+use Rattle.layout_params.specs.Sizes.{Sizes, is_legal}
 use Rattle.sil_micro.specs.declared.op.Op.{Op}
 use Rattle.rv_operations.specs.declared.places.Site.{Site}
 use Rattle.sil_micro.specs.declared.op.Fixed.{Fixed}
@@ -17,6 +17,8 @@ use Rattle.rv_emulate.specs.States.{State}
 use Rattle.rv_straight.specs.Constants.{constant_code, constant_length}
 use Rattle.rv_straight.specs.Jumps.{leap_code, jump_if_code}
 use Rattle.rv_operations.specs.Homes.{home}
+use Rattle.rv_straight.specs.Code.{AreInstrs}
+use Rattle.rv_operations.specs.Sites.{CanStand, HasRules}
 use Rattle.rv_operations.specs.Places.{Places, target_place}
 use Rattle.rv_operations.specs.Links.{fixed_bits}
 use Rattle.rv_operations.specs.Codes.{copy_code, arith_code, branch_op, load_field_code, store_field_code, store_cell_code, begin_code, end_code, op_code, op_length}
@@ -91,3 +93,7 @@ LawOfEnd =
 -- an operation has as many instructions as its length says, wherever it stands
 abbrev pub LawOfLengths : Type 0
 LawOfLengths = (sizes : Sizes) (site : Site) (op : Op) → length (op_code sizes site op) ≡ op_length site.links.number op
+
+-- each of them has a word
+abbrev pub LawOfOpWords : Type 0
+LawOfOpWords = (sizes : Sizes) (site : Site) (op : Op) → IsTrue (is_legal sizes) → site.links.number < 2 ^ 64 → CanStand site op → HasRules op → AreInstrs (op_code sizes site op)

@@ -1,6 +1,6 @@
 // The laws of operations.
 ghost use Rattle.rv_operations.specs.WordLaws.{LawOfLoadBytes, LawOfLoadChar, LawOfLoadKind, LawOfLoadScratch, LawOfLoadState, LawOfStoreBytes, LawOfStoreChar, LawOfStoreKind, LawOfStoreScratch, LawOfStoreState};
-ghost use Rattle.rv_operations.specs.Laws.{LawOfArith, LawOfBegin, LawOfConst, LawOfCopy, LawOfEnd, LawOfJump, LawOfJumpIf, LawOfLengths, LawOfLoadField, LawOfStoreCell, LawOfStoreField};
+ghost use Rattle.rv_operations.specs.Laws.{LawOfArith, LawOfBegin, LawOfConst, LawOfCopy, LawOfEnd, LawOfJump, LawOfJumpIf, LawOfLengths, LawOfLoadField, LawOfOpWords, LawOfStoreCell, LawOfStoreField};
 
 /// The words of constants, copies and sums do what the operations do.
 pub fn law_of_registers()
@@ -61,4 +61,9 @@ pub fn law_of_state()
 /// An operation has as many instructions as its length says.
 pub fn law_of_lengths()
     ensures { LawOfLengths }
+{}
+
+/// The instructions of operations have words.
+pub fn law_of_op_words()
+    ensures { LawOfOpWords }
 {}
