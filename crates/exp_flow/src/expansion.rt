@@ -1,5 +1,5 @@
 // The expansion of a statement whose macro is one of flow.
-ghost use Rattle.std.specs.Prelude.{◌*◌, ◌<◌, ◌≤◌, OnOk, IsTrue, length};
+ghost use Rattle.std.specs.Prelude.{◌≡◌, ◌*◌, ◌<◌, ◌≤◌, OnOk, IsTrue, length};
 ghost use Rattle.sil_macros.specs.Rows.{row};
 ghost use Rattle.sil_model.specs.Costs.{visits};
 ghost use Rattle.sil_model.specs.Fits.{fit};
@@ -14,6 +14,13 @@ use sil_macros::Macro;
 use sil_micro::{Code, MAX_PIECE_WEIGHT, has_room};
 use sil_model::{Arg, Specials, Statement};
 use std::alloc::{AllocError, Global};
+
+/// Whether a macro is one of flow that is expanded so far.
+pub fn is_flow(name: Macro) -> bool
+    ensures { result ≡ is_flow name }
+{
+    matches!(name, Macro::Endex)
+}
 
 /// Expands statement number `at`. After an error the code may have a part of the statement's
 /// operations.

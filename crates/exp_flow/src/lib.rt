@@ -4,4 +4,4 @@
 mod ends;
 mod expansion;
 
-pub use expansion::expand_flow;
+pub use expansion::{expand_flow, is_flow};

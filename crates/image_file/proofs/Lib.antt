@@ -1,4 +1,8 @@
+pub mod Agreement
 pub mod ByteNumbers
+pub mod Files
+pub mod Fitting
 pub mod PartRules
 pub mod Parts
-pub mod Spelled
+pub mod SpelledEntries
+pub mod Stops

@@ -1,3 +1,5 @@
+pub mod Grammar
 pub mod Image
-pub mod Spelling
 pub mod Reading
+pub mod Spelling
+pub mod Version

@@ -30,25 +30,25 @@ pub(crate) fn number_64(bytes: &[u8]) -> u64
     LittleEndian::read_u64(bytes)
 }
 
-/// Appends the two bytes of a number.
-pub(crate) fn put_16(out: &mut Vec<u8>, n: u16) -> Result<(), AllocError>
-    ensures { IfOk result (λ _. out.new.items ≡ out.old.items ++ low_bytes 2 n) }
+/// The two bytes of a number.
+pub(crate) fn bytes_16(n: u16) -> [u8; 2]
+    ensures { result ≡ low_bytes 2 n }
 {
-    out.extend_from_slice(&n.to_le_bytes())
+    n.to_le_bytes()
 }
 
-/// Appends the four bytes of a number.
-pub(crate) fn put_32(out: &mut Vec<u8>, n: u32) -> Result<(), AllocError>
-    ensures { IfOk result (λ _. out.new.items ≡ out.old.items ++ low_bytes 4 n) }
+/// The four bytes of a number.
+pub(crate) fn bytes_32(n: u32) -> [u8; 4]
+    ensures { result ≡ low_bytes 4 n }
 {
-    out.extend_from_slice(&n.to_le_bytes())
+    n.to_le_bytes()
 }
 
-/// Appends the eight bytes of a number.
-pub(crate) fn put_64(out: &mut Vec<u8>, n: u64) -> Result<(), AllocError>
-    ensures { IfOk result (λ _. out.new.items ≡ out.old.items ++ low_bytes 8 n) }
+/// The eight bytes of a number.
+pub(crate) fn bytes_64(n: u64) -> [u8; 8]
+    ensures { result ≡ low_bytes 8 n }
 {
-    out.extend_from_slice(&n.to_le_bytes())
+    n.to_le_bytes()
 }
 
 /// Appends numbers of four bytes each.
@@ -57,7 +57,7 @@ pub(crate) fn put_all_32(out: &mut Vec<u8>, numbers: &[u32]) -> Result<(), Alloc
     ensures { IfOk result (λ _. out.new.items ≡ out.old.items ++ numbers_in 4 numbers.now) }
 {
     for number in numbers {
-        put_32(out, *number)?;
+        out.extend_from_slice(&bytes_32(*number))?;
     }
     Ok(())
 }
@@ -68,7 +68,7 @@ pub(crate) fn put_all_64(out: &mut Vec<u8>, numbers: &[u64]) -> Result<(), Alloc
     ensures { IfOk result (λ _. out.new.items ≡ out.old.items ++ numbers_in 8 numbers.now) }
 {
     for number in numbers {
-        put_64(out, *number)?;
+        out.extend_from_slice(&bytes_64(*number))?;
     }
     Ok(())
 }

@@ -6,8 +6,6 @@ mod accesses;
 #[cfg(test)]
 mod emulator;
 #[cfg(test)]
-mod images;
-#[cfg(test)]
 mod model;
 #[cfg(test)]
 mod results;

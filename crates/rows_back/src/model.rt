@@ -1,7 +1,48 @@
 // Cells and operands.
-use layout_params::{Cell, Descr, Field, STANDARD_PARAMS, read_params};
+ghost use Rattle.std.specs.Prelude.{◌≡◌, ◌++◌, ◌≤◌, ◌^◌, replicate, IfOk};
+ghost use Rattle.layout_params.specs.Parameters.{standard};
+ghost use Rattle.sil_model.specs.FieldBits.{FitsBits};
+ghost use Rattle.sil_model.specs.Start.{limits_of};
+
+use layout_params::{
+    Cell, Descr, Field, ParamStop, Params, STANDARD_PARAMS, read_params, standard_text_is_standard,
+};
 use sil_model::{Arg, Cells, a_field, f_field, limits_of, number, place, set_a_field, v_field};
+use std::alloc::Global;
 use std::test::Fail;
+
+/// Where the first cell stands.
+const FIRST: i64 = 0x4000_0000;
+
+fn standard_params(alloc: Global) -> Result<Params, ParamStop>
+    ensures { IfOk result (λ p. p ≡ standard) }
+{
+    standard_text_is_standard();
+    read_params(alloc, STANDARD_PARAMS)
+}
+
+/// So many blank cells of the standard layout.
+fn standard_cells(alloc: Global, count: usize) -> Result<Cells, Fail>
+    requires { count ≤ 2 ^ 20 }
+    ensures { IfOk result (λ c. c.limits ≡ limits_of standard.settings) }
+{
+    let limits = limits_of(&standard_params(alloc)?);
+    Ok(Cells::new(alloc, limits, &[], count)?)
+}
+
+/// Whether a field of the first cell is read as it was written, and none is found within the cell.
+fn is_kept(cells: &mut Cells, field: Field, value: u64) -> bool
+    requires { FitsBits cells.old.limits field value }
+    ensures { cells.new.limits ≡ cells.old.limits }
+{
+    let wrote = cells.set_field(FIRST, field, value);
+    let read = cells.field(FIRST, field);
+    let within = cells.set_field(FIRST + 8, field, value);
+    wrote == Some(())
+        && read == Some(value)
+        && within == None
+        && cells.field(FIRST + 8, field) == None
+}
 
 #[test]
 fn cells_are_read_as_written(rt: HostRuntime) -> Result<(), Fail> {
@@ -32,24 +73,32 @@ fn two_characters(first: u8, second: u8) -> Cell {
 
 #[test]
 fn characters_make_a_descriptor_characters(rt: HostRuntime) -> Result<(), Fail> {
-    let limits = limits_of(&read_params(rt.alloc(), STANDARD_PARAMS)?);
-    let mut cells = Cells::new(rt.alloc(), limits, &[], 2)?;
-    let first = 0x4000_0000;
+    let mut cells = standard_cells(rt.alloc(), 2)?;
     let minus_one = Descr { a: -1, f: 0, v: 0 };
-    assert_eq!(rt; cells.set_descr(first, minus_one), Some(()));
-    assert_eq!(rt; cells.char_at(first), None);
-    assert_eq!(rt; cells.set_char(first + 1, b'Y'), Some(()));
-    assert_eq!(rt; cells.cell(first), Some(two_characters(0, b'Y')));
-    assert_eq!(rt; cells.set_char(first, b'X'), Some(()));
-    assert_eq!(rt; cells.cell(first), Some(two_characters(b'X', b'Y')));
-    let read = [cells.char_at(first), cells.char_at(first + 1), cells.char_at(first + 2)];
+    assert_eq!(rt; cells.set_descr(FIRST, minus_one), Some(()));
+    assert_eq!(rt; cells.char_at(FIRST), None);
+    assert_eq!(rt; cells.set_char(FIRST + 1, b'Y'), Some(()));
+    assert_eq!(rt; cells.cell(FIRST), Some(two_characters(0, b'Y')));
+    assert_eq!(rt; cells.set_char(FIRST, b'X'), Some(()));
+    assert_eq!(rt; cells.cell(FIRST), Some(two_characters(b'X', b'Y')));
+    let read = [
+        cells.char_at(FIRST),
+        cells.char_at(FIRST + 1),
+        cells.char_at(FIRST + 2),
+    ];
     assert_eq!(rt; read, [Some(b'X'), Some(b'Y'), Some(0)]);
-    assert_eq!(rt; (cells.descr(first), cells.field(first, Field::A)), (None, None));
-    assert_eq!(rt; cells.set_field(first, Field::V, 1), None);
-    assert_eq!(rt; cells.cell(first), Some(two_characters(b'X', b'Y')));
-    assert_eq!(rt; cells.set_descr(first, minus_one), Some(()));
-    assert_eq!(rt; (cells.char_at(first), cells.descr(first)), (None, Some(minus_one)));
-    for address in [first + 32, first - 1, -1] {
+    assert_eq!(rt;
+        (cells.descr(FIRST), cells.field(FIRST, Field::A)),
+        (None, None)
+    );
+    assert_eq!(rt; cells.set_field(FIRST, Field::V, 0), None);
+    assert_eq!(rt; cells.cell(FIRST), Some(two_characters(b'X', b'Y')));
+    assert_eq!(rt; cells.set_descr(FIRST, minus_one), Some(()));
+    assert_eq!(rt;
+        (cells.char_at(FIRST), cells.descr(FIRST)),
+        (None, Some(minus_one))
+    );
+    for address in [FIRST + 32, FIRST - 1, -1] {
         assert_eq!(rt; cells.char_at(address), None);
         assert_eq!(rt; cells.set_char(address, b'Z'), None);
     }
@@ -58,19 +107,19 @@ fn characters_make_a_descriptor_characters(rt: HostRuntime) -> Result<(), Fail> 
 
 #[test]
 fn a_field_keeps_the_others(rt: HostRuntime) -> Result<(), Fail> {
-    let limits = limits_of(&read_params(rt.alloc(), STANDARD_PARAMS)?);
-    let mut cells = Cells::new(rt.alloc(), limits, &[], 1)?;
-    let at = 0x4000_0000;
-    let writes = [(Field::A, 0xffff_ffff_ffff_fffe), (Field::F, 65_535), (Field::V, 4_294_967_295)];
-    for (field, value) in writes {
-        assert_eq!(rt; cells.set_field(at, field, value), Some(()));
-        assert_eq!(rt; cells.field(at, field), Some(value));
-        assert_eq!(rt; cells.set_field(at + 8, field, value), None);
-        assert_eq!(rt; cells.field(at + 8, field), None);
-    }
-    let whole = Descr { a: -2, f: 65_535, v: 4_294_967_295 };
-    assert_eq!(rt; cells.descr(at), Some(whole));
-    assert_eq!(rt; (a_field(&cells, at), f_field(&cells, at), v_field(&cells, at)), (Some(-2), Some(65_535), Some(4_294_967_295)));
+    let mut cells = standard_cells(rt.alloc(), 1)?;
+    assert!(rt; is_kept(&mut cells, Field::A, 0xffff_ffff_ffff_fffe));
+    assert!(rt; is_kept(&mut cells, Field::F, 65_535));
+    assert!(rt; is_kept(&mut cells, Field::V, 4_294_967_295));
+    let whole = Descr {
+        a: -2,
+        f: 65_535,
+        v: 4_294_967_295,
+    };
+    assert_eq!(rt; cells.descr(FIRST), Some(whole));
+    assert_eq!(rt; a_field(&cells, FIRST), Some(-2));
+    assert_eq!(rt; f_field(&cells, FIRST), Some(65_535));
+    assert_eq!(rt; v_field(&cells, FIRST), Some(4_294_967_295));
     Ok(())
 }
 

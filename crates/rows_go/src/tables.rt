@@ -4,7 +4,8 @@ use image_file::{Image, load_image};
 use std::alloc::{AllocError, Global};
 use std::test::Fail;
 
-static TABLES: &[u8] = b"BEGIN T\nFOR('A') PUT(Z) GOTO(U)\nFOR(66) PUT(-2) ERROR\nELSE STOPSH\nEND T\nBEGIN U\nELSE PUT(0) CONTIN\nEND U\n";
+static TABLES: &[u8] =
+    b"BEGIN T\nFOR('A') PUT(Z) GOTO(U)\nFOR(66) PUT(-2) ERROR\nELSE STOPSH\nEND T\nBEGIN U\nELSE PUT(0) CONTIN\nEND U\n";
 
 /// A table, a code, and the sixteen bytes of the entry; Z is 0x4000_0000.
 static ENTRIES: [(usize, usize, &[u8]); 6] = [

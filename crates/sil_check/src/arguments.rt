@@ -87,12 +87,7 @@ fn arg_by(source: &BoundSource<'_>, kind: Kind, expr: &Expr) -> Option<Arg>
 }
 
 /// The operand in this place.
-fn arg_of(
-    alloc: Global,
-    source: &BoundSource<'_>,
-    place: Place,
-    operand: &Operand,
-) -> Option<Arg>
+fn arg_of(alloc: Global, source: &BoundSource<'_>, place: Place, operand: &Operand) -> Option<Arg>
     requires { IsResolved source.now }
     ensures arg { result ≡ arg_of (scope_in source.now) place operand.now }
     ensures fits { IfSome result (FitsArg (length (names_in source.now.tables.now))) }

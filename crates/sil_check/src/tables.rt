@@ -49,8 +49,7 @@ fn goes_astray(tables: &Written, places: &[Place], operands: &[Operand]) -> bool
     let Some((place, places)) = places.split_first() else {
         return false;
     };
-    first_is_astray(tables, place.kind, operands)
-        || goes_astray(tables, places, rest_of(operands))
+    first_is_astray(tables, place.kind, operands) || goes_astray(tables, places, rest_of(operands))
 }
 
 /// The rule of tables that a statement breaks.

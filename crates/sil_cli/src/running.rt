@@ -1,9 +1,10 @@
 // Runs of an image's bytes.
 ghost use Rattle.std.specs.Prelude.{◌≡◌, ◌≤◌, ◌^◌, IfOk, IfErr, OnErr};
+ghost use Rattle.image_file.specs.Grammar.{IsImageFile};
 ghost use Rattle.image_file.specs.Image.{Image, IsImage};
 ghost use Rattle.image_file.specs.Spelling.{spelling};
 ghost use Rattle.unit_io.specs.Units.{tapes_of};
-ghost use Rattle.sil_cli.specs.Runs.{RunsSo, RunsBytes};
+ghost use Rattle.sil_cli.specs.Runs.{RunsSo, RunsBytes, IsRefusedRun};
 
 use crate::ending::Stop;
 use image_file::{Image, load_image};
@@ -28,7 +29,8 @@ fn run<U: UnitSet>(
     Ok(cpu.run(units, budget(image, n)))
 }
 
-/// Runs the bytes of an image for at most n statements. Bytes that are none are refused.
+/// Runs the bytes of an image for at most n statements. Bytes that are none are refused by the
+/// first of their parts that differs or is cut short.
 pub fn run_image<U: UnitSet>(
     alloc: Global,
     bytes: &[u8],
@@ -38,6 +40,8 @@ pub fn run_image<U: UnitSet>(
     requires { n ≤ MAX_STEPS }
     ensures ran { IfOk result (λ end. RunsBytes bytes.now n end
         (tapes_of (U.seen units.old)) (tapes_of (U.seen units.new))) }
+    ensures read { IfOk result (λ _. (image : Image) × IsImageFile image bytes.now) }
+    ensures refused { IfErr result (λ e. IsRefusedRun e bytes.now) }
     ensures accepts { (image : Image) → IsImage image → bytes.now ≡ spelling image
         → IfErr result (λ e. e ≡ Stop.Memory) }
     ensures still { OnErr result (U.seen units.new ≡ U.seen units.old) }

@@ -1,34 +1,29 @@
-use Rattle.std.proofs.Common.{◌++◌, refl}
-use Rattle.image_file.specs.Spelling.{settings_part, numbers_in, counts_of}
-use Rattle.image_file.specs.Reading.{body_part}
-use Rattle.image_file.proofs.Spelled.{image_parts, length-numbers_in, counts_fit}
+use Rattle.std.specs.Prelude.{MatchResult}
+use Rattle.std.proofs.lemmas.Result.{err_from_is_err_and}
+use Rattle.image_file.specs.Grammar.{IsImageFile, IsRefused}
+use Rattle.image_file.proofs.Files.{reads_again, refuses}
 use Rattle.image_file.proofs.reading.load_image.Goals as goal
 
-pub returns-in_err-rest : goal.returns-in_err-rest
-returns-in_err-rest c = record {
-  again = λ i image e. absurd (c.in_err-rest.ensures.again _ (image_parts i _ e));
-}
-
 pub returns-in_err-settings : goal.returns-in_err-settings
-returns-in_err-settings c = record {
-  again = λ i image e.
-      let rest = c.in_ok-rest.ensures.again (settings_part i.settings ++ (numbers_in 4 (counts_of i) ++ body_part i)) (image_parts i _ e) in
-      absurd (c.in_err-settings.ensures.again i.settings (numbers_in 4 (counts_of i) ++ body_part i) image.settings rest);
-}
+returns-in_err-settings c =
+    let p = err_from_is_err_and c.from_residual.result c.from_residual.ensures.1 in
+    let exact : MatchResult c.from_residual.result (λ i. IsImageFile i c.args.bytes.now) (λ e. IsRefused e c.args.bytes.now) = rw (p.1, p.2) c.in_err-settings.ensures in
+    record {
+      exact = exact;
+      again = reads_again c.from_residual.result c.args.bytes.now exact;
+      refused = refuses c.from_residual.result c.args.bytes.now exact;
+    }
 
-pub returns-in_err-counts : goal.returns-in_err-counts
-returns-in_err-counts c = record {
-  again = λ i image e.
-      let rest = c.in_ok-rest.ensures.again (settings_part i.settings ++ (numbers_in 4 (counts_of i) ++ body_part i)) (image_parts i _ e) in
-      let settings = c.in_ok-settings.ensures.again i.settings (numbers_in 4 (counts_of i) ++ body_part i) image.settings rest in
-      absurd (c.in_err-counts.ensures.again (numbers_in 4 (counts_of i)) (body_part i) (length-numbers_in 4 (counts_of i)) settings.1);
-}
+pub read_body-requires : goal.read_body-requires
+read_body-requires c =
+    let head = c.in_ok-settings.ensures in
+    record { legal = head.2.2.1.1; within = head.2.2.2.2.1.1 }
 
 pub returns : goal.returns
-returns c = record {
-  again = λ i image e.
-      let rest = c.in_ok-rest.ensures.again (settings_part i.settings ++ (numbers_in 4 (counts_of i) ++ body_part i)) (image_parts i _ e) in
-      let settings = c.in_ok-settings.ensures.again i.settings (numbers_in 4 (counts_of i) ++ body_part i) image.settings rest in
-      let counts = c.in_ok-counts.ensures.again (numbers_in 4 (counts_of i)) (body_part i) (length-numbers_in 4 (counts_of i)) settings.1 in
-      c.read_body.ensures.again i image settings.0 (c.read_counts.ensures.again (counts_of i) refl (counts_fit i image) counts.0) counts.1;
-}
+returns c =
+    let exact = c.read_body.ensures c.args.bytes.now c.in_ok-settings.ensures in
+    record {
+      exact = exact;
+      again = reads_again c.read_body.result c.args.bytes.now exact;
+      refused = refuses c.read_body.result c.args.bytes.now exact;
+    }

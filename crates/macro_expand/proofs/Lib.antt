@@ -1,0 +1,4 @@
+mod Growing
+mod Stepping
+mod Running
+mod Costs

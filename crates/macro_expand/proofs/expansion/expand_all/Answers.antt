@@ -1,0 +1,24 @@
+use Rattle.std.proofs.Common.{◌≡◌, length, ◌∙◌, sym, ap, arith, subst, refl}
+use Rattle.std.proofs.lemmas.Option.{slice_get_read}
+use Rattle.std.specs.Prelude.{slice_get}
+use Rattle.macro_expand.proofs.Costs.{makes_step}
+use Rattle.macro_expand.proofs.Growing.{SoFar}
+use Rattle.macro_expand.proofs.Running.{runs_to}
+use Rattle.macro_expand.proofs.Stepping.{step, whole}
+use Rattle.macro_expand.proofs.expansion.expand_all.Goals as goal
+
+pub loop-k-preserved : goal.loop-k-preserved
+loop-k-preserved c = step c.args.program.now c.loop-k.k c.loop-k.code c.expand.new.code c.index-statements-k.result c.loop-k.invariant (omega (arith, c.loop-k-test.true, ap length c.items-statements.ensures)) (ap (λ l. slice_get l c.loop-k.k) (sym c.items-statements.ensures) ∙ slice_get_read c.items-statements.result.now (length c.items-statements.result.now) c.loop-k.k c.index-statements-k.result refl c.loop-k-test.true c.index-statements-k.is) c.in_ok-expand.ensures
+
+pub returns-clause-expansion : goal.returns-clause-expansion
+returns-clause-expansion c =
+    let all : c.loop-k.k ≡ length c.args.program.now.statements = omega (arith, c.loop-k-test.false, c.loop-k.auto.k-end, ap length c.items-statements.ensures) in
+    whole c.args.program.now c.loop-k.code c.requires.well_formed.statements (subst (λ k. SoFar c.args.program.now k c.loop-k.code) all c.loop-k.invariant)
+
+pub returns-clause-runs : goal.returns-clause-runs
+returns-clause-runs c = λ tapes n few.
+    runs_to c.args.program.now c.args.params.now c.loop-k.code (returns-clause-expansion c) c.requires.well_formed (c.law_of_steps.ensures c.args.program.now c.args.params.now c.requires.well_formed) c.law_on_ways.ensures.ways c.law_on_ways.ensures.meeting n few tapes
+
+pub returns-clause-costs : goal.returns-clause-costs
+returns-clause-costs c = λ n few k statement u there valid left.
+    makes_step c.args.program.now c.args.params.now c.loop-k.code (returns-clause-expansion c) c.requires.well_formed (c.law_of_steps.ensures c.args.program.now c.args.params.now c.requires.well_formed) c.law_on_ways.ensures.ways c.law_on_ways.ensures.meeting n few k statement there u valid left

@@ -1,0 +1,78 @@
+// The expansion of all statements of a program.
+ghost use Rattle.std.specs.Prelude.{◌≡◌, ◌*◌, ◌<◌, ◌≤◌, IfOk, OnOk, IsTrue, length, map};
+ghost use Rattle.sil_macros.specs.Rows.{row};
+ghost use Rattle.sil_model.specs.Costs.{visits};
+ghost use Rattle.sil_model.specs.Fits.{fit};
+ghost use Rattle.sil_model.specs.Table.{clause};
+ghost use Rattle.sil_model.specs.WellFormed.{IsWellFormed};
+ghost use Rattle.sil_micro.specs.Expands.{Expands};
+ghost use Rattle.sil_micro.specs.Pieces.{weights};
+ghost use Rattle.macro_expand.specs.Expanded.{AreExpanded, IsExpansion, RunsAsTheMachine, is_expanded};
+ghost use Rattle.macro_expand.specs.Steps.{StepsWithinCosts};
+
+use exp_descr::expand_descr;
+use exp_flow::{expand_flow, is_flow};
+use layout_params::Params;
+use sil_base::{MAX_STATEMENTS, Record};
+use sil_micro::{Code, MAX_PIECE_WEIGHT, law_on_ways};
+use sil_model::{Program, Specials, Statement, law_of_steps};
+use std::alloc::{AllocError, Global};
+
+/// The code of a program: its runs are the program's runs, and each statement's operations weigh no
+/// more than the statement may cost.
+pub fn expand_all(alloc: Global, program: &Program, params: &Params) -> Result<Code, AllocError>
+    requires well_formed { IsWellFormed program.now params.now.settings }
+    requires built { AreExpanded program.now }
+    ensures expansion { IfOk result (λ code. IsExpansion program.now code) }
+    ensures runs { IfOk result (λ code. RunsAsTheMachine program.now params.now code) }
+    ensures costs { IfOk result (λ code. StepsWithinCosts program.now params.now code) }
+{
+    law_of_steps();
+    law_on_ways();
+    let _ = params;
+    let statements = program.statements.items();
+    let mut code = Code::new(alloc);
+    code.reserve_statements(statements.len() as u32)?;
+    code.set_data(
+        program.cells.items().len() as u32,
+        copies(alloc, program.formats.items())?,
+    );
+    for (k, statement) in statements.iter().enumerate() {
+        expand(alloc, statement, k as u32, &program.specials, &mut code)?;
+    }
+    Ok(code)
+}
+
+/// Expands statement number `at`.
+#[tactic(auto)]
+fn expand(
+    alloc: Global,
+    statement: &Statement,
+    at: u32,
+    specials: &Specials,
+    code: &mut Code,
+) -> Result<(), AllocError>
+    requires group { IsTrue (is_expanded statement.now.name) }
+    requires fits { IsTrue (fit (row statement.now.name).places statement.now.args) }
+    requires number { at < length code.old.entries }
+    requires few { length code.old.entries ≤ MAX_STATEMENTS }
+    requires light { weights code.old.ops ≤ MAX_PIECE_WEIGHT * at }
+    ensures { OnOk result (Expands code.old code.new at specials.now statement.now.args (clause statement.now.name) (visits statement.now.name)) }
+{
+    if is_flow(statement.name) {
+        expand_flow(alloc, statement, at, specials, code)
+    } else {
+        expand_descr(alloc, statement, at, specials, code)
+    }
+}
+
+/// Copies of these records.
+fn copies(alloc: Global, records: &[Record]) -> Result<Vec<Record>, AllocError>
+    ensures { IfOk result (λ v. v.items ≡ records.now) }
+{
+    let mut copies = Vec::with_capacity(alloc, records.len())?;
+    for record in records {
+        copies.push(Record::of(alloc, record.bytes())?)?;
+    }
+    Ok(copies)
+}
