@@ -1,6 +1,6 @@
 -- Words of the bytes of cells are read and written.
-use Rattle.std.proofs.Common.{◌≡◌, ◌≢◌, ℕ, ◌+◌, ◌*◌, ◌/◌, ◌%◌, ◌^◌, ◌<◌, ◌≤◌, List, [], ◌∷◌, length, Option, Some, None, Bool, true, false, cond, ◌==◌, refl, sym, ap, subst, ◌∙◌, arith, rules}
-use Rattle.std.specs.Prelude.{ℤ, pos, option_and_then, FitsSigned}
+use Rattle.std.proofs.Common.{◌≡◌, ℕ, ◌+◌, ◌*◌, ◌/◌, ◌%◌, ◌^◌, ◌<◌, ◌≤◌, List, [], ◌∷◌, length, Option, Some, None, Bool, true, false, cond, ◌==◌, refl, sym, ap, subst, ◌∙◌, arith, rules}
+use Rattle.std.specs.Prelude.{option_and_then}
 use Rattle.std.specs.Int.{w64, cast_unsigned, cast_signed}
 use Rattle.std.proofs.lemmas.Int.{of_z-to_z}
 use Rattle.std.proofs.lemmas.List.{length-set}
@@ -9,8 +9,8 @@ use Rattle.sil_base.specs.Bytes.{number, low_bytes, piece, with_piece}
 use Rattle.sil_base.specs.declared.places.TheConstants.{FIRST_CELL}
 use Rattle.sil_base.proofs.Numbers.{length-piece, low_bytes_below, length-low_bytes, number_below, AreBytes-piece}
 use Rattle.layout_params.specs.declared.cell.Cell.TheVariants.{Chars}
-use Rattle.layout_params.proofs.LegalLayouts.{IsLegal, legal}
-use Rattle.sil_model.specs.Memory.{Memory, FitsChars}
+use Rattle.layout_params.proofs.LegalLayouts.{legal}
+use Rattle.sil_model.specs.Memory.{FitsChars}
 use Rattle.sil_model.specs.Access.{with_cell}
 use Rattle.sil_model.specs.CellWords.{word_at, set_word_at}
 use Rattle.sil_model.proofs.Characters.{bytes_of}
@@ -25,7 +25,7 @@ use Rattle.rv_straight.proofs.Reaching.{start, straight}
 use Rattle.rv_straight.proofs.Leaps.{code_from}
 use Rattle.rv_routines.specs.Routines.{IsRoutine, kept}
 use Rattle.rv_routines.specs.Tests.{cell_around, with_chars, word_test}
-use Rattle.rv_routines.proofs.Cells.{IsWithin, place_of_byte}
+use Rattle.rv_routines.proofs.Cells.{place_of_byte}
 use Rattle.rv_routines.proofs.Regions.{store_cells}
 use Rattle.rv_routines.proofs.CharBytes.{IsMade, word_loads, chars_put}
 use Rattle.rv_routines.proofs.Differing.{cell_room, differ_same}
@@ -36,7 +36,7 @@ use Rattle.rv_operations.specs.WordLaws.{LawOfLoadBytes, LawOfStoreBytes}
 use Rattle.rv_operations.proofs.Standing.{home_kept}
 use Rattle.rv_operations.proofs.Doing.{unsigned_small, framed, moves_from}
 use Rattle.rv_operations.proofs.Setting.{sets, leaves}
-use Rattle.rv_operations.proofs.CharsFound.{IsAround, chars_around, word_found, word_is, set_word_is}
+use Rattle.rv_operations.proofs.CharsFound.{chars_around, word_found, word_is, set_word_is}
 
 near : (x : ℕ) → x < 2 ^ 64 → sum64 x 0 ≡ x
 near x h = omega arith

@@ -1,7 +1,7 @@
 -- LoadChar and StoreChar do what the operations do.
-use Rattle.std.proofs.Common.{◌≡◌, ◌≢◌, ℕ, zero, suc, ◌+◌, ◌*◌, ◌%◌, ◌^◌, ◌<◌, ◌≤◌, List, [], ◌∷◌, length, Option, Some, None, false, refl, sym, ap, subst, ◌∙◌, arith}
-use Rattle.std.specs.Prelude.{ℤ, pos, slice_get, slice_set, option_and_then, FitsSigned}
-use Rattle.std.specs.Int.{w64, cast_unsigned, cast_signed}
+use Rattle.std.proofs.Common.{◌≡◌, ℕ, zero, suc, ◌+◌, ◌*◌, ◌%◌, ◌^◌, ◌<◌, List, [], ◌∷◌, length, Some, false, refl, sym, ap, subst, ◌∙◌, arith}
+use Rattle.std.specs.Prelude.{ℤ, pos, slice_get, slice_set, option_and_then}
+use Rattle.std.specs.Int.{w64, cast_unsigned}
 use Rattle.std.proofs.lemmas.Int.{to_z-of_z}
 use Rattle.std.proofs.lemmas.List.{length-set}
 use Rattle.sil_base.specs.Bytes.{low_bytes, with_piece}
@@ -10,13 +10,12 @@ use Rattle.sil_base.proofs.Numbers.{low_bytes_below}
 use Rattle.layout_params.specs.declared.cell.Cell.{Cell}
 use Rattle.layout_params.specs.declared.cell.Cell.TheVariants.{Chars}
 use Rattle.layout_params.proofs.LegalLayouts.{legal}
-use Rattle.sil_model.specs.Memory.{Memory, FitsChars}
+use Rattle.sil_model.specs.Memory.{FitsChars}
 use Rattle.sil_model.specs.Access.{char_at, set_char_at, chars_or_zeros, with_cell}
 use Rattle.sil_model.proofs.Keeps.{all_at}
 use Rattle.sil_micro.specs.States.{held}
-use Rattle.sil_micro.specs.Operations.{load_char, store, On}
+use Rattle.sil_micro.specs.Operations.{load_char, store}
 use Rattle.sil_micro.specs.Words.{low_byte, unsigned}
-use Rattle.rv_emulate.specs.Memory as emulator
 use Rattle.rv_emulate.specs.Memory.{loaded, stored}
 use Rattle.rv_emulate.specs.States.{register}
 use Rattle.rv_emulate.specs.Values.{sum64}
@@ -26,7 +25,7 @@ use Rattle.rv_straight.proofs.Reaching.{start, straight}
 use Rattle.rv_straight.proofs.Leaps.{code_from}
 use Rattle.rv_routines.specs.Routines.{IsRoutine, kept}
 use Rattle.rv_routines.specs.Tests.{cell_around, with_chars, char_test, make_test, made}
-use Rattle.rv_routines.proofs.Cells.{place_of_byte, few_bytes}
+use Rattle.rv_routines.proofs.Cells.{place_of_byte}
 use Rattle.rv_routines.proofs.Regions.{store_cells}
 use Rattle.rv_routines.proofs.Pieces.{kind_written}
 use Rattle.rv_routines.proofs.CharBytes.{char_loads, chars_put, made_is, made_fits}
@@ -35,7 +34,7 @@ use Rattle.rv_routines.proofs.FieldLoads.{cell_fits}
 use Rattle.rv_operations.specs.Homes.{home}
 use Rattle.rv_operations.specs.Does.{Does}
 use Rattle.rv_operations.specs.WordLaws.{LawOfLoadChar, LawOfStoreChar}
-use Rattle.rv_operations.proofs.Standing.{home_kept, with_register}
+use Rattle.rv_operations.proofs.Standing.{home_kept}
 use Rattle.rv_operations.proofs.Doing.{unsigned_small, framed, moves_from}
 use Rattle.rv_operations.proofs.Setting.{sets, leaves}
 use Rattle.rv_operations.proofs.CharsFound.{around, chars_around, char_is, set_char_is}

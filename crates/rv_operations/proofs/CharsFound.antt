@@ -1,5 +1,5 @@
 -- Characters, words and kinds of the model, by the cell around an address.
-use Rattle.std.proofs.Common.{◌≡◌, ℕ, zero, suc, ◌+◌, ◌-◌, ◌%◌, ◌^◌, ◌<◌, ◌≤◌, List, [], ◌∷◌, length, Option, Some, None, Bool, true, false, cond, ◌==◌, refl, sym, ap, subst, ◌∙◌, arith}
+use Rattle.std.proofs.Common.{◌≡◌, ℕ, suc, ◌-◌, ◌%◌, ◌^◌, ◌≤◌, List, length, Option, Some, None, Bool, true, false, cond, ◌==◌, refl, sym, ap, subst, ◌∙◌, arith}
 use Rattle.std.specs.Prelude.{ℤ, pos, negsuc, slice_get, slice_set, nat_lt, option_and_then, FitsSigned}
 use Rattle.std.specs.Int.{w64, cast_unsigned, cast_signed}
 use Rattle.std.proofs.lemmas.Int.{to_z-of_z}
@@ -9,7 +9,7 @@ use Rattle.layout_params.specs.declared.cell.Cell.{Cell}
 use Rattle.layout_params.specs.declared.cell.Cell.TheVariants.{Descr, Chars}
 use Rattle.sil_model.specs.Memory.{Memory}
 use Rattle.sil_model.specs.Access.{◌>>=◌, byte_place, chars_of, chars_or_zeros, char_at, put_char, set_char_at, with_cell, with_cells}
-use Rattle.sil_model.specs.CellWords.{kind_of, kind_at, put_kind, set_kind_at, cell_of_kind, word_place, word_at, put_word, set_word_at}
+use Rattle.sil_model.specs.CellWords.{kind_of, kind_at, word_place, word_at, put_word, set_word_at}
 use Rattle.rv_routines.specs.Tests.{cell_around, with_chars}
 
 -- ---- where a cell was found

@@ -1,17 +1,16 @@
 -- The kinds of cells are read and set.
-use Rattle.std.proofs.Common.{◌≡◌, ◌≢◌, ℕ, zero, suc, ◌+◌, ◌-◌, ◌*◌, ◌^◌, ◌<◌, ◌≤◌, List, [], ◌∷◌, length, replicate, Option, Some, None, Bool, true, false, cond, refl, sym, ap, subst, ◌∙◌, arith}
+use Rattle.std.proofs.Common.{◌≡◌, ◌≢◌, ℕ, zero, suc, ◌+◌, ◌-◌, ◌^◌, ◌<◌, ◌≤◌, List, [], ◌∷◌, length, replicate, Option, Some, None, Bool, true, false, cond, refl, sym, ap, subst, ◌∙◌, arith}
 use Rattle.std.specs.Prelude.{ℤ, pos, negsuc, slice_get, slice_set, nat_lt, option_and_then, FitsSigned}
 use Rattle.std.specs.Int.{w64, cast_unsigned}
 use Rattle.std.proofs.lemmas.List.{length-set}
 use Rattle.sil_base.specs.declared.places.TheConstants.{FIRST_KIND}
-use Rattle.layout_params.specs.Areas.{all_cells}
 use Rattle.layout_params.specs.declared.cell.Cell.{Cell}
 use Rattle.layout_params.specs.declared.cell.Cell.TheVariants.{Descr, Chars}
 use Rattle.layout_params.specs.Sizes.{Sizes}
 use Rattle.layout_params.proofs.LegalLayouts.{IsLegal, legal}
 use Rattle.sil_model.specs.Memory.{Memory}
 use Rattle.sil_model.specs.Access.{with_cell, with_cells}
-use Rattle.sil_model.specs.CellWords.{kind_of, kind_at, put_kind, set_kind_at, cell_of_kind}
+use Rattle.sil_model.specs.CellWords.{kind_of, kind_at, put_kind, set_kind_at}
 use Rattle.sil_model.specs.Start.{zero_cell}
 use Rattle.sil_micro.specs.States.{held}
 use Rattle.sil_micro.specs.Operations.{load, store}
@@ -28,13 +27,13 @@ use Rattle.rv_routines.specs.Routines.{IsRoutine, kept}
 use Rattle.rv_routines.specs.Tests.{below_test, kind_test, kinded, cleared}
 use Rattle.rv_routines.specs.Holds.{HoldsMemory}
 use Rattle.rv_routines.proofs.Cells.{few_bytes}
-use Rattle.rv_routines.proofs.Checking.{lt_of, kind_small}
+use Rattle.rv_routines.proofs.Checking.{lt_of}
 use Rattle.rv_routines.proofs.Regions.{load_kind}
 use Rattle.rv_routines.proofs.CharBytes.{holds_blank, holds_zero}
 use Rattle.rv_operations.specs.Does.{Does}
 use Rattle.rv_operations.specs.WordLaws.{LawOfLoadKind, LawOfStoreKind}
 use Rattle.rv_operations.proofs.Standing.{with_memory, stands_stored}
-use Rattle.rv_operations.proofs.Doing.{unsigned_small, framed, framed_last, moves_from}
+use Rattle.rv_operations.proofs.Doing.{framed, framed_last, moves_from}
 use Rattle.rv_operations.proofs.Setting.{sets}
 use Rattle.rv_operations.proofs.CharsFound.{number_found, kind_is, none_past, far_off}
 

@@ -1,9 +1,8 @@
 -- The rules of operations give what their emission asks for.
-use Rattle.std.proofs.Common.{◌≡◌, ℕ, zero, suc, ◌+◌, ◌*◌, ◌<◌, ◌≤◌, length, Bool, true, false, ◌&&◌, cond, refl, arith}
+use Rattle.std.proofs.Common.{◌≡◌, ℕ, ◌+◌, length, refl}
 use Rattle.layout_params.specs.Sizes.{Sizes}
 use Rattle.layout_params.specs.declared.cell.Field.TheVariants as field
 use Rattle.sil_micro.specs.declared.op.Area.TheVariants as areas
-use Rattle.sil_micro.specs.declared.op.Op.{Op}
 use Rattle.sil_micro.specs.declared.op.Op.TheVariants.{Const, Copy, Arith, Jump, JumpIf, JumpEntry, JumpReturn, LoadField, StoreField, StoreCell, LoadChar, StoreChar, LoadWord, StoreWord, UnitCall, Begin, End}
 use Rattle.sil_micro.specs.declared.op.Text.{Text}
 use Rattle.sil_micro.specs.declared.op.Text.TheVariants as text
@@ -12,7 +11,7 @@ use Rattle.sil_micro.specs.declared.op.Values.TheVariants as values
 use Rattle.rv_straight.proofs.Numbers.{length-constant}
 use Rattle.rv_operations.specs.declared.places.Site.{Site}
 use Rattle.rv_operations.specs.Homes.{home}
-use Rattle.rv_operations.specs.Codes.{op_code, op_length, text_code, text_length, values_code, values_length}
+use Rattle.rv_operations.specs.Codes.{op_code, text_length, values_length}
 use Rattle.rv_operations.specs.Laws.{LawOfLengths}
 
 -- ---- how many instructions an operation has

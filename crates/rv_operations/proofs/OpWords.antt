@@ -2,15 +2,12 @@
 use Rattle.std.proofs.Common.{◌≡◌, ℕ, ◌+◌, ◌-◌, ◌^◌, ◌<◌, ◌≤◌, ◌⊎◌, inl, inr, List, [], ◌∷◌, ◌++◌, sym, subst, arith, rules}
 use Rattle.std.specs.Prelude.{pos, IsTrue}
 use Rattle.rv_isa.specs.declared.instr.Instr.{Instr}
-use Rattle.rv_isa.specs.declared.instr.Instr.TheVariants.{I, S}
+use Rattle.rv_isa.specs.declared.instr.Instr.TheVariants.{I}
 use Rattle.rv_isa.specs.Words.{IsInstr}
-use Rattle.layout_params.specs.Sizes.{Sizes, is_legal}
 use Rattle.layout_params.specs.Packing.{place_of, width_of}
 use Rattle.layout_params.specs.declared.cell.Field.TheVariants as field
-use Rattle.layout_params.proofs.LegalLayouts.{IsLegal, legal}
+use Rattle.layout_params.proofs.LegalLayouts.{legal}
 use Rattle.sil_micro.specs.declared.op.Area.TheVariants as areas
-use Rattle.sil_micro.specs.declared.op.Arith.{Arith as Kind}
-use Rattle.sil_micro.specs.declared.op.Op.{Op}
 use Rattle.sil_micro.specs.declared.op.Op.TheVariants.{Const, Copy, Arith, Jump, JumpIf, JumpEntry, JumpReturn, LoadField, StoreField, StoreCell, LoadChar, StoreChar, LoadWord, StoreWord, UnitCall, Begin, End}
 use Rattle.sil_micro.specs.declared.op.Text.{Text}
 use Rattle.sil_micro.specs.declared.op.Text.TheVariants as text
@@ -18,16 +15,16 @@ use Rattle.sil_micro.specs.declared.op.Values.{Values}
 use Rattle.sil_micro.specs.declared.op.Values.TheVariants as values
 use Rattle.sil_micro.specs.Forms.{are_values}
 use Rattle.rv_straight.specs.Code.{AreInstrs}
-use Rattle.rv_straight.specs.Constants.{upper_of, lower_of}
+use Rattle.rv_straight.specs.Constants.{upper_of}
 use Rattle.rv_straight.specs.Jumps.{distance}
 use Rattle.rv_straight.proofs.AreInstrs.{lower_fits, far_fits, constants, leaps}
-use Rattle.rv_routines.specs.Fields.{load_op, store_op}
+use Rattle.rv_routines.specs.Fields.{load_op}
 use Rattle.rv_routines.proofs.FieldPlaces.{span, place_below}
 use Rattle.rv_operations.specs.declared.places.Site.{Site}
 use Rattle.rv_operations.specs.declared.places.Links.{Links}
 use Rattle.rv_operations.specs.Homes.{home}
-use Rattle.rv_operations.specs.Codes.{op_code, moved_to, text_code, values_code, call_unit_code, unit_call_code}
-use Rattle.rv_operations.specs.Sites.{CanStand, HasRules, IsText}
+use Rattle.rv_operations.specs.Codes.{moved_to, text_code, values_code, call_unit_code, unit_call_code}
+use Rattle.rv_operations.specs.Sites.{IsText}
 use Rattle.rv_operations.specs.Laws.{LawOfOpWords}
 use Rattle.rv_operations.proofs.Standing.{home_small}
 

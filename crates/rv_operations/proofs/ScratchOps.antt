@@ -1,9 +1,9 @@
 -- Scratch words are read and written.
-use Rattle.std.proofs.Common.{◌≡◌, ◌≢◌, ◌⊎◌, inl, inr, ℕ, zero, suc, ◌+◌, ◌-◌, ◌*◌, ◌%◌, ◌^◌, ◌<◌, ◌≤◌, List, [], ◌∷◌, length, Option, Some, None, Bool, true, false, cond, refl, sym, ap, subst, ◌∙◌, arith}
+use Rattle.std.proofs.Common.{◌≡◌, ◌≢◌, ◌⊎◌, inl, inr, ℕ, suc, ◌+◌, ◌-◌, ◌*◌, ◌%◌, ◌^◌, ◌<◌, ◌≤◌, List, [], ◌∷◌, length, Option, Some, None, Bool, true, false, cond, refl, sym, ap, subst, ◌∙◌, arith}
 use Rattle.std.specs.Prelude.{ℤ, pos, negsuc, nat_lt, nat_eq, option_and_then, FitsSigned}
 use Rattle.std.specs.Int.{w64, cast_unsigned}
 use Rattle.std.proofs.lemmas.Bool.{cases_eq, cases_lt}
-use Rattle.sil_base.specs.Bytes.{number, low_bytes, piece, with_piece}
+use Rattle.sil_base.specs.Bytes.{number, low_bytes, piece}
 use Rattle.sil_base.specs.declared.places.TheConstants.{FIRST_SCRATCH}
 use Rattle.sil_base.proofs.Numbers.{length-low_bytes, length-with_piece, low_bytes_below, AreBytes-with_piece}
 use Rattle.layout_params.specs.Sizes.{Sizes}
@@ -13,7 +13,6 @@ use Rattle.sil_model.specs.Memory as abstract
 use Rattle.sil_micro.specs.States.{Setting, Micro, held}
 use Rattle.sil_micro.specs.Operations.{load, store_scratch, scratch_word, set_scratch, with_word, scratch_words}
 use Rattle.rv_emulate.specs.Memory.{Memory, loaded, stored}
-use Rattle.rv_emulate.specs.States as emulator
 use Rattle.rv_emulate.specs.States.{State, register}
 use Rattle.rv_emulate.specs.Values.{sum64}
 use Rattle.rv_straight.specs.Effects.{Value, Leaves}
@@ -22,7 +21,7 @@ use Rattle.rv_straight.specs.Straight.{◌▸◌}
 use Rattle.rv_straight.proofs.Registers.{read_kept}
 use Rattle.rv_straight.proofs.Reaching.{start, straight}
 use Rattle.rv_straight.proofs.Leaps.{code_from}
-use Rattle.rv_routines.specs.Holds.{HoldsMemory, HoldsBytes}
+use Rattle.rv_routines.specs.Holds.{HoldsMemory}
 use Rattle.rv_routines.specs.Routines.{IsRoutine, kept}
 use Rattle.rv_routines.specs.Tests.{below_test, scratch_written}
 use Rattle.rv_routines.proofs.Cells.{few_bytes}

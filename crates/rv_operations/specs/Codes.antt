@@ -1,5 +1,5 @@
 -- The instructions of operations.
-use Rattle.std.specs.Prelude.{ℕ, ◌+◌, ◌*◌, pos, negsuc, List, [], ◌∷◌, ◌++◌}
+use Rattle.std.specs.Prelude.{ℕ, ◌+◌, pos, negsuc, List, [], ◌∷◌, ◌++◌}
 use Rattle.rv_isa.specs.declared.instr.ROp.{ROp}
 use Rattle.rv_isa.specs.declared.instr.ROp.TheVariants as r
 use Rattle.rv_isa.specs.declared.instr.IOp.TheVariants.{Addi, Slli, Ld, Lbu}

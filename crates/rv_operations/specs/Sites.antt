@@ -1,5 +1,5 @@
 -- Where an operation can stand.
-use Rattle.std.specs.Prelude.{ℕ, ◌-◌, ◌^◌, ◌<◌, ◌≤◌, Bool, true, false, IsTrue}
+use Rattle.std.specs.Prelude.{◌-◌, ◌^◌, ◌<◌, ◌≤◌, Bool, true, false, IsTrue}
 use Rattle.sil_micro.specs.declared.op.Op.{Op}
 use Rattle.sil_micro.specs.declared.op.Op.TheVariants.{Const, Copy, Arith, Jump, JumpIf, JumpEntry, JumpReturn, LoadField, StoreField, StoreCell, LoadChar, StoreChar, LoadWord, StoreWord, UnitCall, Begin, End}
 use Rattle.sil_micro.specs.Forms.{are_values}
