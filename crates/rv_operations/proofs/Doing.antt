@@ -1,5 +1,5 @@
 -- Operations by their ways, and through a routine.
-use Rattle.std.proofs.Common.{◌≡◌, ◌≢◌, ℕ, ◌+◌, ◌*◌, ◌%◌, ◌^◌, ◌<◌, ◌≤◌, List, [], ◌∷◌, length, take, drop, Option, Some, None, Bool, true, false, refl, sym, ap, subst, ◌∙◌, arith}
+use Rattle.std.proofs.Common.{◌≡◌, ◌≢◌, ℕ, ◌+◌, ◌*◌, ◌^◌, ◌<◌, ◌≤◌, List, [], ◌∷◌, length, take, drop, Option, Some, None, Bool, true, false, refl, sym, ap, subst, ◌∙◌, arith}
 use Rattle.std.specs.Prelude.{ℤ, slice_get, FitsSigned}
 use Rattle.std.specs.Int.{w64, cast_unsigned}
 use Rattle.rv_isa.specs.declared.instr.IOp.TheVariants.{Jalr}
@@ -92,10 +92,21 @@ module _ {image : Image} {last : ℕ} {g : Setting} {code : List Instr} {u : Mic
     there ys a = record s { pc = s.pc + 4 * (k + 2); registers = ys; memory = after s.memory a }
 
     pub framed : (places : Places) (j most next : ℕ) (does : Option A → Effect) (found : Option A) → does None ≡ undefined u → take 1 (drop k code) ≡ U Auipc 11 (far_upper (s.pc + 4 * k) routine) ∷ [] → slice_get code (k + 1) ≡ Some (I Jalr 11 11 (lower_of (distance (s.pc + 4 * k) routine))) → n + 2 + fail ≤ most → n + 2 + back + j ≤ most → ((xs : List ℕ) → ((q : ℕ) → q ≢ 11 → register xs q ≡ read s.registers ws q) → test u.state.memory xs ≡ found) → ((d : A) (ys : List ℕ) → found ≡ Some d → Returned is_temporary s.registers ys ws → Does image last g places false j next (there ys d) (does (Some d))) → Does image last g places false most next s (does found)
-    framed places j most next does found none e jump le le' same rest = by_found found refl (called covers p u.state.memory b.stands.memory few b.even r temporary room found e jump same)
+    framed places j most next does found none e jump le le' same rest = by_found found refl (called covers p u.state.memory b.stands.memory few b.even r temporary (omega (arith, room)) found e jump same)
       where
         by_found : (o : Option A) → found ≡ o → Called is_temporary after image last (n + 2 + fail) (n + 2 + back) s (s.pc + 4 * (k + 2)) ws o → Does image last g places false most next s (does o)
         by_found None is h = subst (λ e. Does image last g places false most next s e) (sym none) (comes_within image last false (n + 2 + fail) most s _ (lost h) le)
         by_found (Some d) is h =
             let here = b.code.free (s.pc + 4 * (k + 2)) (omega arith) (omega (arith, room)) in
             does_after image last g places false next s (there h.0 d) (n + 2 + back) j most h.1 here le' (does (Some d)) (rest d h.0 is h.2)
+
+  -- the same where the call is the operation's end
+  module _ {A : Type 0} {routine fail back n k : ℕ} {test : abstract.Memory → List ℕ → Option A} {after : Memory → A → Memory} {ws : Writes} (p : Reaches b.code n k ws s.memory) (r : IsRoutine image last g.settings.sizes (length u.state.memory.cells) routine fail back test after) (temporary : are is_temporary ws ≡ true) (room : k + 2 ≤ length code) where
+    pub framed_last : (places : Places) (most next : ℕ) (does : Option A → Effect) (new : A → Micro) (found : Option A) → does None ≡ undefined u → take 1 (drop k code) ≡ U Auipc 11 (far_upper (s.pc + 4 * k) routine) ∷ [] → slice_get code (k + 1) ≡ Some (I Jalr 11 11 (lower_of (distance (s.pc + 4 * k) routine))) → n + 2 + fail ≤ most → n + 2 + back ≤ most → s.pc + 4 * (k + 2) ≡ next → ((xs : List ℕ) → ((q : ℕ) → q ≢ 11 → register xs q ≡ read s.registers ws q) → test u.state.memory xs ≡ found) → ((d : A) → found ≡ Some d → does (Some d) ≡ On (new d)) → ((d : A) (ys : List ℕ) → found ≡ Some d → Returned is_temporary s.registers ys ws → StandsFor g (new d) (record s { pc = next; registers = ys; memory = after s.memory d })) → Does image last g places false most next s (does found)
+    framed_last places most next does new found none e jump le le' end same goes stands = by_found found refl (called covers p u.state.memory b.stands.memory few b.even r temporary room found e jump same)
+      where
+        by_found : (o : Option A) → found ≡ o → Called is_temporary after image last (n + 2 + fail) (n + 2 + back) s (s.pc + 4 * (k + 2)) ws o → Does image last g places false most next s (does o)
+        by_found None is h = subst (λ e. Does image last g places false most next s e) (sym none) (comes_within image last false (n + 2 + fail) most s _ (lost h) le)
+        by_found (Some d) is h =
+            let there = subst (λ q. Comes image last false (n + 2 + back) s (emulator.On (record s { pc = q; registers = h.0; memory = after s.memory d }))) end h.1 in
+            subst (λ e. Does image last g places false most next s e) (sym (goes d is)) (record s { pc = next; registers = h.0; memory = after s.memory d }, comes_within image last false (n + 2 + back) most s _ there le', refl, stands d h.0 is h.2)

@@ -1,25 +1,20 @@
 -- LoadField does what the operation does.
-use Rattle.std.proofs.Common.{◌≡◌, ◌≢◌, ℕ, ◌+◌, ◌*◌, ◌/◌, ◌^◌, ◌<◌, ◌≤◌, ◌⊎◌, inl, inr, List, [], ◌∷◌, length, Option, Some, None, false, refl, sym, ap, subst, ◌∙◌, arith}
-use Rattle.std.specs.Prelude.{ℤ, pos, option_and_then, IsTrue, FitsSigned}
+use Rattle.std.proofs.Common.{◌≡◌, ℕ, ◌+◌, ◌/◌, ◌^◌, ◌<◌, ◌≤◌, ◌⊎◌, inl, inr, List, [], ◌∷◌, length, Some, refl, sym, ap, subst, ◌∙◌, arith}
+use Rattle.std.specs.Prelude.{ℤ, pos, option_and_then, FitsSigned}
 use Rattle.std.specs.Int.{w64, cast_unsigned, cast_signed}
 use Rattle.std.proofs.lemmas.Int.{to_z-of_z}
-use Rattle.std.proofs.lemmas.List.{length-set}
-use Rattle.rv_isa.specs.declared.instr.IOp.TheVariants.{Lbu, Lhu, Lwu, Ld}
 use Rattle.layout_params.specs.declared.cell.Descr.{Descr as Descriptor}
 use Rattle.layout_params.specs.declared.cell.Cell.TheVariants.{Descr}
-use Rattle.layout_params.specs.declared.cell.Field.{Field}
-use Rattle.layout_params.specs.Sizes.{Sizes}
 use Rattle.layout_params.specs.Packing.{place_of, width_of}
 use Rattle.layout_params.proofs.LegalLayouts.{IsLegal, legal}
 use Rattle.sil_model.specs.Memory as abstract
-use Rattle.sil_model.specs.Access.{descr_at, field_of, cell_number, with_cell, ◌>>=◌, with_cells, put_cell}
+use Rattle.sil_model.specs.Access.{descr_at, field_of}
 use Rattle.sil_micro.specs.States.{Setting, Micro, held}
-use Rattle.sil_micro.specs.Operations.{load, store}
+use Rattle.sil_micro.specs.Operations.{load}
 use Rattle.rv_emulate.specs.Memory.{Memory, loaded}
 use Rattle.rv_emulate.specs.States.{register}
 use Rattle.rv_emulate.specs.Values.{sum64}
-use Rattle.rv_straight.specs.Effects.{i_effect, Gives, Value, Leaves}
-use Rattle.rv_straight.specs.Registers.{read}
+use Rattle.rv_straight.specs.Effects.{i_effect, Gives, Value}
 use Rattle.rv_straight.specs.Straight.{◌▸◌}
 use Rattle.rv_straight.proofs.Reaching.{start, straight}
 use Rattle.rv_straight.proofs.Leaps.{code_from}
@@ -29,10 +24,6 @@ use Rattle.rv_routines.specs.Tests.{check_test}
 use Rattle.rv_routines.proofs.Cells.{IsPlace, offset, place_of_found, few_bytes}
 use Rattle.rv_routines.proofs.FieldPlaces.{span}
 use Rattle.rv_routines.proofs.FieldLoads.{cell_fits, field_fits, field_loads}
-use Rattle.rv_operations.specs.Homes.{home, is_temporary}
-use Rattle.rv_operations.specs.StandsFor.{StandsFor}
-use Rattle.rv_operations.specs.Does.{Does, Begins}
-use Rattle.rv_operations.specs.Codes.{load_field_code}
 use Rattle.rv_operations.specs.Laws.{LawOfLoadField}
 use Rattle.rv_operations.proofs.Doing.{unsigned_small, framed, moves_from}
 use Rattle.rv_operations.proofs.Setting.{sets}

@@ -1,5 +1,5 @@
 -- StoreField does what the operation does.
-use Rattle.std.proofs.Common.{◌≡◌, ◌≢◌, ℕ, ◌+◌, ◌*◌, ◌/◌, ◌^◌, ◌<◌, ◌≤◌, List, [], ◌∷◌, ◌++◌, length, Option, Some, None, Bool, true, false, cond, refl, sym, ap, subst, ◌∙◌, arith}
+use Rattle.std.proofs.Common.{◌≡◌, ◌≢◌, ℕ, ◌+◌, ◌/◌, ◌^◌, ◌<◌, List, [], ◌∷◌, ◌++◌, Option, Some, None, Bool, true, false, cond, refl, sym, ap, subst, ◌∙◌, arith}
 use Rattle.std.specs.Prelude.{ℤ, pos, nat_lt, option_and_then, IsTrue, FitsSigned, slice_set}
 use Rattle.std.specs.Int.{w64, cast_unsigned}
 use Rattle.std.proofs.lemmas.Int.{to_z-of_z}
@@ -11,7 +11,7 @@ use Rattle.layout_params.specs.declared.cell.Field.TheVariants.{A, F, V}
 use Rattle.layout_params.specs.Areas.{all_cells}
 use Rattle.layout_params.specs.Sizes.{is_legal}
 use Rattle.layout_params.specs.Packing.{place_of, width_of}
-use Rattle.layout_params.proofs.LegalLayouts.{IsLegal, legal}
+use Rattle.layout_params.proofs.LegalLayouts.{legal}
 use Rattle.sil_model.specs.Memory as abstract
 use Rattle.sil_model.specs.Access.{descr_at, cell_number, with_cell, with_cells, put_cell, set_descr_at}
 use Rattle.sil_model.specs.Integers.{within}
@@ -19,7 +19,7 @@ use Rattle.sil_micro.specs.States.{Setting, Micro, held}
 use Rattle.sil_micro.specs.Operations.{store, On}
 use Rattle.rv_isa.specs.declared.instr.Instr.TheVariants.{S}
 use Rattle.image_file.specs.Image.{Image}
-use Rattle.rv_emulate.specs.Memory.{Memory, stored}
+use Rattle.rv_emulate.specs.Memory.{stored}
 use Rattle.rv_emulate.specs.States.{State, register}
 use Rattle.rv_emulate.specs.Values.{sum64, s_width}
 use Rattle.rv_straight.specs.Effects.{Value, Leaves}

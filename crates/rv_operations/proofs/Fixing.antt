@@ -1,9 +1,6 @@
 -- Numbers of operations, by their bits.
-use Rattle.std.proofs.Common.{◌≡◌, ℕ, ◌+◌, ◌*◌, ◌^◌, ◌<◌, ◌≤◌, List, [], ◌∷◌, length, take, false, refl, sym, ap, subst, ◌∙◌, arith}
-use Rattle.std.specs.Prelude.{ℤ, pos, FitsSigned}
+use Rattle.std.proofs.Common.{◌≡◌, ℕ, ◌+◌, ◌*◌, ◌≤◌, List, [], ◌∷◌, length, take, false, refl, sym, ap, subst, arith}
 use Rattle.std.specs.Int.{w64, cast_unsigned}
-use Rattle.layout_params.specs.Areas.{all_cells}
-use Rattle.layout_params.specs.Parameters.{AreLegalSettings}
 use Rattle.sil_micro.specs.declared.op.Fixed.{Fixed}
 use Rattle.sil_micro.specs.declared.op.Fixed.TheVariants.{Number, Descr, Obsiz, Sttl, Ttl, Date, Hidden, Dynamic, Stack, Cells}
 use Rattle.sil_micro.specs.States.{Setting, Micro}
@@ -11,7 +8,7 @@ use Rattle.sil_micro.specs.Operations.{fixed, On as Onward}
 use Rattle.rv_emulate.specs.States.{State, On}
 use Rattle.rv_isa.specs.declared.instr.Instr.{Instr}
 use Rattle.rv_straight.specs.Ways.{Comes}
-use Rattle.rv_straight.specs.Registers.{Writes, Knows}
+use Rattle.rv_straight.specs.Registers.{Knows}
 use Rattle.rv_straight.specs.Straight.{at}
 use Rattle.rv_straight.specs.Constants.{constant_code, constant_length}
 use Rattle.rv_straight.proofs.Registers.{knows_write}
@@ -20,7 +17,6 @@ use Rattle.rv_straight.proofs.Numbers.{constant_runs, length-constant}
 use Rattle.rv_operations.specs.Homes.{home}
 use Rattle.rv_operations.specs.StandsFor.{StandsFor}
 use Rattle.rv_operations.specs.Links.{fixed_bits}
-use Rattle.rv_operations.specs.Does.{Does}
 use Rattle.rv_operations.specs.Laws.{LawOfConst}
 use Rattle.rv_operations.proofs.Doing.{does_within}
 use Rattle.rv_operations.proofs.Standing.{home_small, home_positive, with_register}

@@ -1,5 +1,5 @@
 -- Jumps between operations.
-use Rattle.std.proofs.Common.{◌≡◌, ℕ, ◌+◌, ◌-◌, ◌*◌, ◌%◌, ◌^◌, ◌<◌, List, [], ◌∷◌, Bool, true, false, cond, refl, sym, ap, subst, ◌∙◌, arith}
+use Rattle.std.proofs.Common.{◌≡◌, ℕ, ◌+◌, ◌-◌, ◌*◌, ◌%◌, ◌^◌, ◌<◌, List, [], ◌∷◌, Bool, true, false, refl, ap, subst, ◌∙◌, arith}
 use Rattle.std.specs.Prelude.{not}
 use Rattle.std.specs.Int.{w64, cast_unsigned}
 use Rattle.rv_isa.specs.declared.instr.Instr.{Instr}
@@ -9,9 +9,9 @@ use Rattle.sil_micro.specs.States.{Setting, Micro, held}
 use Rattle.sil_micro.specs.Operations.{jump_if}
 use Rattle.sil_micro.specs.Words.{holds}
 use Rattle.image_file.specs.Image.{Image}
-use Rattle.rv_emulate.specs.States.{State, On, register}
+use Rattle.rv_emulate.specs.States.{State, register}
 use Rattle.rv_emulate.specs.Values.{taken}
-use Rattle.rv_straight.specs.Registers.{Writes, written, are, Knows}
+use Rattle.rv_straight.specs.Registers.{Writes, written}
 use Rattle.rv_straight.specs.Straight.{at}
 use Rattle.rv_straight.specs.Jumps.{inverse, leap_code, jump_if_code}
 use Rattle.rv_straight.specs.Reaching.{Reaches}

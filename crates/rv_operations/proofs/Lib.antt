@@ -9,3 +9,11 @@ pub mod FieldsRead
 pub mod FieldsWritten
 pub mod CellsWritten
 pub mod Statements
+pub mod CharsFound
+pub mod CharOps
+pub mod ByteWordOps
+pub mod KindOps
+pub mod ScratchOps
+pub mod StateOps
+pub mod OpRules
+pub mod OpWords

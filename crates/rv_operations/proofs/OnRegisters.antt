@@ -1,8 +1,6 @@
 -- Constants, copies and sums.
-use Rattle.std.proofs.Common.{◌≡◌, ℕ, ◌+◌, ◌-◌, ◌*◌, ◌%◌, ◌^◌, ◌<◌, List, [], ◌∷◌, length, take, refl, sym, ap, subst, ◌∙◌, arith}
-use Rattle.std.specs.Prelude.{ℤ, pos, negsuc, FitsSigned}
+use Rattle.std.proofs.Common.{◌+◌, [], ◌∷◌, refl, ap, ◌∙◌, arith}
 use Rattle.std.specs.Int.{w64, cast_unsigned}
-use Rattle.rv_isa.specs.declared.instr.Instr.{Instr}
 use Rattle.sil_micro.specs.States.{held}
 use Rattle.sil_micro.specs.Words.{computed}
 use Rattle.rv_emulate.specs.States.{register}

@@ -1,5 +1,5 @@
 -- Operations whose last instructions set a micro register, or write memory.
-use Rattle.std.proofs.Common.{◌≡◌, ◌≢◌, ℕ, ◌+◌, ◌*◌, ◌<◌, ◌≤◌, List, ◌∷◌, length, take, drop, true, false, refl, subst, ◌∙◌}
+use Rattle.std.proofs.Common.{◌≡◌, ℕ, ◌+◌, ◌*◌, ◌<◌, ◌≤◌, List, ◌∷◌, length, take, drop, true, false, refl, subst, ◌∙◌}
 use Rattle.std.specs.Prelude.{ℤ, FitsSigned}
 use Rattle.std.specs.Int.{w64, cast_unsigned}
 use Rattle.rv_isa.specs.declared.instr.Instr.{Instr}
@@ -11,7 +11,7 @@ use Rattle.rv_emulate.specs.Memory.{Memory}
 use Rattle.rv_emulate.specs.States as emulator
 use Rattle.rv_emulate.specs.States.{State}
 use Rattle.rv_straight.specs.Ways.{Comes}
-use Rattle.rv_straight.specs.Registers.{Keeps, Writes, written, are, Knows}
+use Rattle.rv_straight.specs.Registers.{IsFile, Keeps, Writes, written, are, Knows}
 use Rattle.rv_straight.specs.Effects.{Given}
 use Rattle.rv_straight.specs.Straight.{at, Follow, writes_after, memory_after}
 use Rattle.rv_straight.specs.Code.{IsNext}
@@ -72,4 +72,16 @@ module _ {image : Image} {last : ℕ} {g : Setting} {u : Micro} {s : State} (pla
         ends p j _ (subst (λ q. Comes image last false j (at before (pc + 4 * k) ws mem) (emulator.On (at before q all after))) end (runs p j gs some room does)),
         refl,
         stands_stored g u s memory after next (written ys all) stands know.file (λ q free. know.reads q ∙ read_kept is_temporary ys all q temporary free ∙ kept q free) holds count scratch tables,
+      )
+
+  -- what is left stands for another micro state
+  pub leaves_as : (j : ℕ) (gs : List Given) (v : Micro) (next : ℕ) → 0 < j → k + j ≤ length code → Follow image.constants ys pc k ws mem (rest j) gs → are is_temporary (writes_after ws (rest j) gs) ≡ true → ((zs : List ℕ) → IsFile zs → Keeps is_temporary s.registers zs → StandsFor g v (record s { pc = next; registers = zs; memory = memory_after mem (rest j) gs })) → pc + 4 * (k + j) ≡ next → Does image last g places false (n + j) next before (On v)
+  leaves_as j gs v next some room does temporary becomes end =
+      let all = writes_after ws (rest j) gs in
+      let after = memory_after mem (rest j) gs in
+      let know = knows p j gs room does in (
+        at before next all after,
+        ends p j _ (subst (λ q. Comes image last false j (at before (pc + 4 * k) ws mem) (emulator.On (at before q all after))) end (runs p j gs some room does)),
+        refl,
+        becomes (written ys all) know.file (λ q free. know.reads q ∙ read_kept is_temporary ys all q temporary free ∙ kept q free),
       )

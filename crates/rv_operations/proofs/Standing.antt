@@ -1,10 +1,9 @@
 -- What a state stands for after registers or cells were written.
-use Rattle.std.proofs.Common.{◌≡◌, ◌≢◌, ℕ, suc, ◌+◌, ◌*◌, ◌<◌, ◌⊎◌, inl, inr, List, length, Bool, true, false, cond, ◌==◌, refl, sym, ap, subst, ◌∙◌, arith}
+use Rattle.std.proofs.Common.{◌≡◌, ◌≢◌, ℕ, suc, ◌+◌, ◌*◌, ◌<◌, ◌⊎◌, inl, inr, List, length, true, false, cond, ◌==◌, refl, sym, ap, subst, ◌∙◌, arith}
 use Rattle.std.specs.Prelude.{ℤ, FitsSigned}
 use Rattle.std.specs.Int.{w64, cast_unsigned}
 use Rattle.std.proofs.lemmas.Bool.{cases_eq}
 use Rattle.sil_base.specs.Bytes.{number, piece}
-use Rattle.layout_params.specs.Areas.{all_cells}
 use Rattle.sil_model.specs.Memory as abstract
 use Rattle.sil_micro.specs.States.{Setting, Micro, held, put}
 use Rattle.sil_micro.proofs.Registers.{what_is_held}

@@ -1,17 +1,17 @@
 -- The beginning of a statement, and the end.
-use Rattle.std.proofs.Common.{◌≡◌, ◌≢◌, ℕ, zero, suc, ◌+◌, ◌-◌, ◌*◌, ◌%◌, ◌^◌, ◌<◌, ◌≤◌, List, [], ◌∷◌, length, Option, Some, None, Bool, true, false, cond, ◌==◌, refl, sym, ap, subst, ◌∙◌, arith}
-use Rattle.std.specs.Prelude.{ℤ, pos, negsuc, nat_lt, not, FitsSigned}
+use Rattle.std.proofs.Common.{◌≡◌, ◌≢◌, ℕ, zero, suc, ◌+◌, ◌-◌, ◌*◌, ◌^◌, ◌<◌, ◌≤◌, List, [], ◌∷◌, length, Option, Some, None, Bool, true, false, ◌==◌, refl, ap, subst, ◌∙◌, arith}
+use Rattle.std.specs.Prelude.{ℤ, pos, negsuc, nat_lt, not}
 use Rattle.std.specs.Int.{w64, cast_unsigned}
 use Rattle.sil_micro.specs.States.{Setting, Micro, held}
 use Rattle.sil_micro.specs.Operations.{begin_if, end_by, unit_fault}
 use Rattle.image_file.specs.Image.{Image}
 use Rattle.rv_emulate.specs.declared.end.CpuEnd.TheVariants.{Budget}
 use Rattle.rv_emulate.specs.Calls as calls
-use Rattle.rv_emulate.specs.States.{State, On, Ended, register}
-use Rattle.rv_emulate.specs.Values.{sum64, extended, taken}
+use Rattle.rv_emulate.specs.States.{State, Ended, register}
+use Rattle.rv_emulate.specs.Values.{sum64, extended}
 use Rattle.rv_straight.specs.Ways.{Comes}
 use Rattle.rv_straight.specs.Effects.{Value}
-use Rattle.rv_straight.specs.Registers.{Writes, written, read}
+use Rattle.rv_straight.specs.Registers.{Writes, written}
 use Rattle.rv_straight.specs.Straight.{at, ◌▸◌}
 use Rattle.rv_straight.specs.Constants.{upper_of}
 use Rattle.rv_straight.specs.Reaching.{Reaches}
@@ -19,13 +19,11 @@ use Rattle.rv_straight.proofs.Registers.{read_other}
 use Rattle.rv_straight.proofs.Ways.{comes_within}
 use Rattle.rv_straight.proofs.Numbers.{constant_is}
 use Rattle.rv_straight.proofs.Reaching.{start, straight, passes, branches, ends, ends_by, ends_now, runs, knows}
-use Rattle.rv_operations.specs.Homes.{home}
 use Rattle.rv_operations.specs.Places.{Places}
-use Rattle.rv_operations.specs.StandsFor.{StandsFor}
 use Rattle.rv_operations.specs.Codes.{begin_code, end_code}
 use Rattle.rv_operations.specs.Does.{Does, Begins}
 use Rattle.rv_operations.specs.Laws.{LawOfBegin, LawOfEnd}
-use Rattle.rv_operations.proofs.Standing.{home_small, stands_begun}
+use Rattle.rv_operations.proofs.Standing.{stands_begun}
 use Rattle.rv_operations.proofs.Doing.{moves_from}
 
 -- no step is left, or some are

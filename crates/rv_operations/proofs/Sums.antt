@@ -1,9 +1,9 @@
 -- What is computed of two registers, by their bits.
-use Rattle.std.proofs.Common.{◌≡◌, ℕ, zero, suc, ◌+◌, ◌-◌, ◌*◌, ◌/◌, ◌%◌, ◌^◌, ◌<◌, ◌≤◌, Some, Bool, true, false, cond, ◌==◌, refl, sym, ap, subst, ◌∙◌, arith, rules}
-use Rattle.std.specs.Prelude.{ℤ, pos, negsuc, nat_eq, nat_lt, not, int_lt, ◌*ℤ◌, FitsSigned, bit_and, bit_or}
-use Rattle.std.specs.Int.{w64, w128, cast_signed, cast_unsigned}
+use Rattle.std.proofs.Common.{◌≡◌, ℕ, zero, suc, ◌+◌, ◌-◌, ◌*◌, ◌/◌, ◌%◌, ◌^◌, ◌<◌, ◌≤◌, Some, Bool, true, false, cond, ◌==◌, refl, sym, ap, ◌∙◌, arith, rules}
+use Rattle.std.specs.Prelude.{ℤ, pos, negsuc, not, int_lt, ◌*ℤ◌, FitsSigned, bit_and, bit_or}
+use Rattle.std.specs.Int.{w64, cast_signed, cast_unsigned}
 use Rattle.std.specs.Int.RustNames.{int_div, int_rem, unsigned_abs}
-use Rattle.std.proofs.lemmas.Int.{of_z-to_z, to_z-of_z, unsigned_abs-mul, rem_below}
+use Rattle.std.proofs.lemmas.Int.{of_z-to_z, to_z-of_z, unsigned_abs-mul}
 use Rattle.std.proofs.lemmas.Nat.{and_le_l, or_lt, mul-le}
 use Rattle.std.proofs.Math.IntN.{neg_ℤ}
 use Rattle.std.proofs.Math.Facts.{sfits_to_z}
@@ -131,7 +131,7 @@ gives_computed Rem v w e small = (ap Some e, small)
 
 -- ---- tests
 
-same_is : (x y : ℤ) → FitsSigned w64 x → FitsSigned w64 y → (cast_unsigned w64 x == cast_unsigned w64 y) ≡ same_integer x y
+pub same_is : (x y : ℤ) → FitsSigned w64 x → FitsSigned w64 y → (cast_unsigned w64 x == cast_unsigned w64 y) ≡ same_integer x y
 same_is (pos a) (pos b) f g = grind arith
 same_is (pos a) (negsuc b) f g = grind (arith, f.sfits, g.sfits)
 same_is (negsuc a) (pos b) f g = grind (arith, f.sfits, g.sfits)

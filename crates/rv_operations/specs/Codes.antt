@@ -1,5 +1,5 @@
 -- The instructions of operations.
-use Rattle.std.specs.Prelude.{ℕ, ◌+◌, ◌*◌, pos, negsuc, List, [], ◌∷◌, ◌++◌}
+use Rattle.std.specs.Prelude.{ℕ, ◌+◌, pos, negsuc, List, [], ◌∷◌, ◌++◌}
 use Rattle.rv_isa.specs.declared.instr.ROp.{ROp}
 use Rattle.rv_isa.specs.declared.instr.ROp.TheVariants as r
 use Rattle.rv_isa.specs.declared.instr.IOp.TheVariants.{Addi, Slli, Ld, Lbu}
@@ -11,7 +11,6 @@ use Rattle.rv_isa.specs.declared.instr.Instr.{Instr}
 use Rattle.rv_isa.specs.declared.instr.Instr.TheVariants.{R, I, S, B, U, Ecall}
 use Rattle.layout_params.specs.declared.cell.Field.{Field}
 use Rattle.layout_params.specs.declared.cell.Field.TheVariants as field
-use Rattle.layout_params.specs.Parameters.{Settings}
 use Rattle.layout_params.specs.Sizes.{Sizes}
 use Rattle.layout_params.specs.Packing.{place_of, width_of}
 use Rattle.sil_micro.specs.declared.op.Arith.{Arith}
@@ -33,7 +32,6 @@ use Rattle.rv_operations.specs.Homes.{home}
 use Rattle.rv_operations.specs.declared.places.Routines.{Routines}
 use Rattle.rv_operations.specs.declared.places.Links.{Links}
 use Rattle.rv_operations.specs.declared.places.Site.{Site}
-use Rattle.rv_operations.specs.Links.{fixed_bits}
 
 -- ---- registers
 
@@ -113,9 +111,10 @@ word_place_code number page = I Slli 28 number (pos 3) ∷ U Lui 29 page ∷ R r
 abbrev pub load_word_code : Routines → ℕ → Area → ℕ → ℕ → List Instr
 load_word_code routines place areas.State to at =
     call_code at place routines.below_state
-    ++ R r.Sub (home to) 25 27
-    ∷ I Addi 28 0 (pos 2)
-    ∷ B Beq 10 28 (pos 20)
+    ++ I Addi 28 0 (pos 2)
+    ∷ B Bne 10 28 (pos 12)
+    ∷ R r.Sub (home to) 25 27
+    ∷ B Beq 0 0 (pos 20)
     ∷ word_place_code 10 0x6_C000
     ++ I Ld (home to) 28 (pos 0)
     ∷ []
@@ -167,9 +166,12 @@ values_code values.None = I Addi 14 0 (pos 0) ∷ I Addi 15 0 (pos 0) ∷ []
 values_code (values.Words count) = U Lui 13 0x6_C000 ∷ I Addi 13 13 (pos 16) ∷ I Addi 14 0 (pos count) ∷ I Addi 15 0 (pos 1) ∷ []
 values_code (values.Chars at len) = moved_to 13 at ∷ moved_to 14 len ∷ I Addi 15 0 (pos 0) ∷ []
 
+abbrev pub call_unit_code : ℕ → ℕ → List Instr
+call_unit_code call to = I Addi 17 0 (pos call) ∷ Ecall ∷ I Addi (home to) 10 (pos 0) ∷ []
+
 abbrev pub unit_call_code : Links → ℕ → ℕ → ℕ → Text → Values → List Instr
 unit_call_code links call unit to text values =
-    moved_to 10 unit ∷ text_code links text ++ values_code values ++ I Addi 17 0 (pos call) ∷ Ecall ∷ I Addi (home to) 10 (pos 0) ∷ []
+    moved_to 10 unit ∷ text_code links text ++ values_code values ++ call_unit_code call to
 
 -- ---- all operations
 
@@ -197,9 +199,9 @@ op_code sizes site (End by) = end_code by
 unfoldable pub instructions : Sizes → Site → Op → List Instr
 instructions sizes site op = op_code sizes site op
 
--- how many they are, by the operation alone
+-- how many they are, by the operation and the bits of its number alone
 abbrev pub load_word_length : Area → ℕ
-load_word_length areas.State = 10
+load_word_length areas.State = 11
 load_word_length areas.Scratch = 7
 load_word_length areas.Tables = 4
 load_word_length areas.Kind = 6
@@ -227,21 +229,21 @@ values_length values.None = 2
 values_length (values.Words count) = 4
 values_length (values.Chars at len) = 3
 
-abbrev pub op_length : Settings → ℕ → Op → ℕ
-op_length settings statics (Const to value) = constant_length (fixed_bits settings statics value)
-op_length settings statics (Copy to from) = 1
-op_length settings statics (ArithOp kind to left right) = 1
-op_length settings statics (Jump to) = 2
-op_length settings statics (JumpIf test left right to) = 3
-op_length settings statics (JumpEntry entry) = 3
-op_length settings statics (JumpReturn entry) = 3
-op_length settings statics (LoadField f to at) = 4
-op_length settings statics (StoreField f at from) = store_field_length f
-op_length settings statics (StoreCell at a f v) = 8
-op_length settings statics (LoadChar to at) = 4
-op_length settings statics (StoreChar at from) = 4
-op_length settings statics (LoadWord area to at) = load_word_length area
-op_length settings statics (StoreWord area at from) = store_word_length area
-op_length settings statics (UnitCall call unit to text values) = text_length text + values_length values + 4
-op_length settings statics (Begin k) = 7
-op_length settings statics (End by) = 3
+abbrev pub op_length : ℕ → Op → ℕ
+op_length number (Const to value) = constant_length number
+op_length number (Copy to from) = 1
+op_length number (ArithOp kind to left right) = 1
+op_length number (Jump to) = 2
+op_length number (JumpIf test left right to) = 3
+op_length number (JumpEntry entry) = 3
+op_length number (JumpReturn entry) = 3
+op_length number (LoadField f to at) = 4
+op_length number (StoreField f at from) = store_field_length f
+op_length number (StoreCell at a f v) = 8
+op_length number (LoadChar to at) = 4
+op_length number (StoreChar at from) = 4
+op_length number (LoadWord area to at) = load_word_length area
+op_length number (StoreWord area at from) = store_word_length area
+op_length number (UnitCall call unit to text values) = text_length text + values_length values + 4
+op_length number (Begin k) = 7
+op_length number (End by) = 3

@@ -1,5 +1,5 @@
 -- What the words of an operation do.
-use Rattle.std.specs.Prelude.{◌≡◌, ℕ, ◌-◌, ◌%◌, ◌^◌, ◌<◌, ◌≤◌, ℤ, List, length, Option, Some, None, Bool, false, IsTrue}
+use Rattle.std.specs.Prelude.{◌≡◌, ℕ, ◌%◌, ◌≤◌, ℤ, List, length, Option, Some, None, Bool, false}
 use Rattle.layout_params.specs.Parameters.{AreLegalSettings}
 use Rattle.sil_model.specs.declared.end.End.{End}
 use Rattle.sil_model.specs.declared.end.End.TheVariants as ends

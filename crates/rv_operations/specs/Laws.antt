@@ -1,8 +1,11 @@
 -- The words of operations do what the operations do.
-use Rattle.std.specs.Prelude.{◌≡◌, ℕ, ◌+◌, ◌-◌, ◌*◌, ◌%◌, ◌^◌, ◌<◌, ◌≤◌, length, false, FitsSigned}
+use Rattle.std.specs.Prelude.{◌≡◌, ℕ, ◌+◌, ◌-◌, ◌*◌, ◌%◌, ◌^◌, ◌<◌, ◌≤◌, length, false, IsTrue, FitsSigned}
 use Rattle.std.specs.Int.{w64}
 use Rattle.layout_params.specs.declared.cell.Field.{Field}
 use Rattle.sil_micro.specs.declared.op.Arith.{Arith}
+use Rattle.layout_params.specs.Sizes.{Sizes, is_legal}
+use Rattle.sil_micro.specs.declared.op.Op.{Op}
+use Rattle.rv_operations.specs.declared.places.Site.{Site}
 use Rattle.sil_micro.specs.declared.op.Fixed.{Fixed}
 use Rattle.sil_micro.specs.declared.op.Op.TheVariants.{Const, Copy, Arith as ArithOp, Jump, JumpIf, LoadField, StoreField, StoreCell, Begin, End}
 use Rattle.sil_micro.specs.declared.op.Target.{Target}
@@ -14,9 +17,11 @@ use Rattle.rv_emulate.specs.States.{State}
 use Rattle.rv_straight.specs.Constants.{constant_code, constant_length}
 use Rattle.rv_straight.specs.Jumps.{leap_code, jump_if_code}
 use Rattle.rv_operations.specs.Homes.{home}
+use Rattle.rv_straight.specs.Code.{AreInstrs}
+use Rattle.rv_operations.specs.Sites.{CanStand, HasRules}
 use Rattle.rv_operations.specs.Places.{Places, target_place}
 use Rattle.rv_operations.specs.Links.{fixed_bits}
-use Rattle.rv_operations.specs.Codes.{copy_code, arith_code, branch_op, load_field_code, store_field_code, store_cell_code, begin_code, end_code}
+use Rattle.rv_operations.specs.Codes.{copy_code, arith_code, branch_op, load_field_code, store_field_code, store_cell_code, begin_code, end_code, op_code, op_length}
 use Rattle.rv_operations.specs.Routines.{HasRoutines}
 use Rattle.rv_operations.specs.Does.{Does, Begins}
 
@@ -84,3 +89,11 @@ LawOfEnd =
     (image : Image) (last : ℕ) (g : Setting) (places : Places) (by : ℕ) (u : Micro) (s : State)
     → by < 16 → Begins image last g (end_code by) u s
     → Does image last g places false 3 (s.pc + 12) s (act g (End by) u)
+
+-- an operation has as many instructions as its length says, wherever it stands
+abbrev pub LawOfLengths : Type 0
+LawOfLengths = (sizes : Sizes) (site : Site) (op : Op) → length (op_code sizes site op) ≡ op_length site.links.number op
+
+-- each of them has a word
+abbrev pub LawOfOpWords : Type 0
+LawOfOpWords = (sizes : Sizes) (site : Site) (op : Op) → IsTrue (is_legal sizes) → site.links.number < 2 ^ 64 → CanStand site op → HasRules op → AreInstrs (op_code sizes site op)

@@ -8,3 +8,4 @@ pub mod Routines
 pub mod Sites
 pub mod Does
 pub mod Laws
+pub mod WordLaws

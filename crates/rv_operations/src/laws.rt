@@ -1,5 +1,6 @@
 // The laws of operations.
-ghost use Rattle.rv_operations.specs.Laws.{LawOfArith, LawOfBegin, LawOfConst, LawOfCopy, LawOfEnd, LawOfJump, LawOfJumpIf, LawOfLoadField, LawOfStoreCell, LawOfStoreField};
+ghost use Rattle.rv_operations.specs.WordLaws.{LawOfLoadBytes, LawOfLoadChar, LawOfLoadKind, LawOfLoadScratch, LawOfLoadState, LawOfStoreBytes, LawOfStoreChar, LawOfStoreKind, LawOfStoreScratch, LawOfStoreState};
+ghost use Rattle.rv_operations.specs.Laws.{LawOfArith, LawOfBegin, LawOfConst, LawOfCopy, LawOfEnd, LawOfJump, LawOfJumpIf, LawOfLengths, LawOfLoadField, LawOfOpWords, LawOfStoreCell, LawOfStoreField};
 
 /// The words of constants, copies and sums do what the operations do.
 pub fn law_of_registers()
@@ -29,4 +30,40 @@ pub fn law_of_cells()
 pub fn law_of_statements()
     ensures begin { LawOfBegin }
     ensures end { LawOfEnd }
+{}
+
+/// The words of loads and stores of characters do what the operations do.
+pub fn law_of_characters()
+    ensures load { LawOfLoadChar }
+    ensures store { LawOfStoreChar }
+{}
+
+/// So do those of words of bytes, and of kinds.
+pub fn law_of_words()
+    ensures load_bytes { LawOfLoadBytes }
+    ensures store_bytes { LawOfStoreBytes }
+    ensures load_kind { LawOfLoadKind }
+    ensures store_kind { LawOfStoreKind }
+{}
+
+/// So do those of scratch words.
+pub fn law_of_scratch()
+    ensures load { LawOfLoadScratch }
+    ensures store { LawOfStoreScratch }
+{}
+
+/// So do those of the words of the state.
+pub fn law_of_state()
+    ensures load { LawOfLoadState }
+    ensures store { LawOfStoreState }
+{}
+
+/// An operation has as many instructions as its length says.
+pub fn law_of_lengths()
+    ensures { LawOfLengths }
+{}
+
+/// The instructions of operations have words.
+pub fn law_of_op_words()
+    ensures { LawOfOpWords }
 {}

@@ -10,7 +10,7 @@ use rv_straight::{branch, immediate, operate, store, upper_part};
 use sil_micro::Area;
 
 /// A word of the state: the top of the stack, the one below, or the steps taken.
-pub fn load_state(routines: &Routines, place: u32, to: u8, at: u8) -> [Instr; 10]
+pub fn load_state(routines: &Routines, place: u32, to: u8, at: u8) -> [Instr; 11]
     requires to { to < 16 }
     requires at { at < 16 }
     requires place { place < 2 ^ 31 }
@@ -21,9 +21,10 @@ pub fn load_state(routines: &Routines, place: u32, to: u8, at: u8) -> [Instr; 10
         moved_to(10, at),
         call_from(from, routines.below_state),
         call_to(from, routines.below_state),
-        operate(ROp::Sub, home(to), 25, 27),
         immediate(IOp::Addi, 28, 0, 2),
-        branch(BOp::Beq, 10, 28, 20),
+        branch(BOp::Bne, 10, 28, 12),
+        operate(ROp::Sub, home(to), 25, 27),
+        branch(BOp::Beq, 0, 0, 20),
         immediate(IOp::Slli, 28, 10, 3),
         upper_part(UOp::Lui, 29, 0x6_C000),
         operate(ROp::Add, 28, 28, 29),

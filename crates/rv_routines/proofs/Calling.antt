@@ -42,7 +42,7 @@ pub record CoversScratch (free : ℕ → Bool) : Type 0 where
   pub back : free 11 ≡ true
   pub number : free 26 ≡ false
 
-module _ {image : Image} {last : ℕ} {sizes : Sizes} {free : ℕ → Bool} (covers : CoversScratch free) {s : State} {code : List Instr} {c : IsNext image last s code} {n k : ℕ} {ws : Writes} (p : Reaches c n k ws s.memory) (memory : abstract.Memory) (holds : HoldsMemory sizes memory s.memory) (few : register s.registers 26 ≤ length image.statements) (even : s.pc % 4 ≡ 0) {A : Type 0} {routine lost back : ℕ} {test : abstract.Memory → List ℕ → Option A} {after : Memory → A → Memory} (r : IsRoutine image last sizes (length memory.cells) routine lost back test after) (temporary : are free ws ≡ true) (room : k + 2 < length code) where
+module _ {image : Image} {last : ℕ} {sizes : Sizes} {free : ℕ → Bool} (covers : CoversScratch free) {s : State} {code : List Instr} {c : IsNext image last s code} {n k : ℕ} {ws : Writes} (p : Reaches c n k ws s.memory) (memory : abstract.Memory) (holds : HoldsMemory sizes memory s.memory) (few : register s.registers 26 ≤ length image.statements) (even : s.pc % 4 ≡ 0) {A : Type 0} {routine lost back : ℕ} {test : abstract.Memory → List ℕ → Option A} {after : Memory → A → Memory} (r : IsRoutine image last sizes (length memory.cells) routine lost back test after) (temporary : are free ws ≡ true) (room : k + 2 ≤ length code) where
   abbrev us : Writes
   us = (11, s.pc + 4 * (k + 2)) ∷ ws
 

@@ -103,3 +103,6 @@ piece_here d i k new bytes part room = piece_written (i * d) k d new bytes part 
 -- a cell lies within the bytes of all
 pub cell_room : (sizes : Sizes) (mm : abstract.Memory) (m : Memory) (i : ℕ) → HoldsMemory sizes mm m → i < length mm.cells → i * sizes.descr + sizes.descr ≤ length m.cells
 cell_room sizes mm m i holds within = let all : (i + 1) * sizes.descr ≤ length mm.cells * sizes.descr = mul-le (i + 1) sizes.descr (length mm.cells) sizes.descr (omega arith) (omega arith) in omega (arith, holds.size)
+
+pub differ_same : (d i : ℕ) (m : Memory) → DifferInCell d i m m
+differ_same d i m = record { size = refl; kinds_size = refl; there = λ j ne h. refl; other = λ j ne. refl; tables = refl; scratch = refl; bytes = λ h. h }

@@ -10,11 +10,13 @@ pub mod Fitting
 pub mod Opening
 pub mod Characters
 pub mod Below
+pub mod Appended
 pub mod Zeros
 pub mod Making
 pub mod KindBytes
 pub mod StateWords
 pub mod FieldLoads
+pub mod CharBytes
 pub mod FieldStores
 pub mod CellStores
 pub mod Calling

@@ -10,7 +10,7 @@ at_front zero (x ∷ new) bytes h g = absurd (omega (arith, h))
 at_front (suc n) (x ∷ new) [] h g = absurd (omega (arith, g))
 at_front (suc n) (x ∷ new) (b ∷ bytes) h g = ap (λ ys. x ∷ ys) (at_front n new bytes (omega (arith, h)) (omega (arith, g)))
 
-behind : (k n : ℕ) (new bytes : List ℕ) → k + length new ≤ n → n ≤ length bytes → take n (with_piece k new bytes) ≡ with_piece k new (take n bytes)
+pub behind : (k n : ℕ) (new bytes : List ℕ) → k + length new ≤ n → n ≤ length bytes → take n (with_piece k new bytes) ≡ with_piece k new (take n bytes)
 behind zero n new bytes h g = let z : 0 + length new ≡ length new = omega arith in rw z (at_front n new bytes (omega (arith, h)) g)
 behind (suc k) zero new bytes h g = absurd (omega (arith, h))
 behind (suc k) (suc n) new [] h g = absurd (omega (arith, g))

@@ -40,7 +40,7 @@ store_cells m n i v e h =
 
 -- ---- the kinds
 
-piece_one : (xs : List ℕ) (i k : ℕ) → slice_get xs i ≡ Some k → piece i 1 xs ≡ k ∷ []
+pub piece_one : (xs : List ℕ) (i k : ℕ) → slice_get xs i ≡ Some k → piece i 1 xs ≡ k ∷ []
 piece_one [] i k e = absurd cc
 piece_one (x ∷ xs) zero k e = let same : x ≡ k = cc in ap (λ y. y ∷ []) same
 piece_one (x ∷ xs) (suc i) k e = piece_one xs i k e

@@ -101,9 +101,9 @@ abbrev pub zeros_code : ℕ → ℕ → List Instr
 zeros_code k zero = []
 zeros_code k (suc n) = S Sd 30 0 (pos (8 * k)) ∷ zeros_code (suc k) n
 
--- whether the address in x10 lies in a cell, which becomes zeros as characters where it had none
-abbrev pub make_code : ℕ → ℕ → List Instr
-make_code d count =
+-- the tests of the next routine, and its mark
+abbrev pub make_front : ℕ → ℕ → List Instr
+make_front d count =
     U Lui 28 0x4_0000
     ∷ R Sub 28 10 28
     ∷ I Addi 29 0 (pos d)
@@ -123,11 +123,15 @@ make_code d count =
     ∷ I Addi 29 0 (pos 1)
     ∷ S Sb 28 29 (pos 0)
     ∷ R Sub 30 10 30
-    ∷ zeros_code 0 (d / 8) ++ I Jalr 0 11 (pos 0) ∷ []
+    ∷ []
 
--- whether the number in x12 is a kind and that in x10 the number of a cell, which becomes zeros of this kind
-abbrev pub kind_code : ℕ → ℕ → List Instr
-kind_code d count =
+-- whether the address in x10 lies in a cell, which becomes zeros as characters where it had none
+abbrev pub make_code : ℕ → ℕ → List Instr
+make_code d count = make_front d count ++ zeros_code 0 (d / 8) ++ I Jalr 0 11 (pos 0) ∷ []
+
+-- the tests of the next routine, and the kind
+abbrev pub kind_front : ℕ → ℕ → List Instr
+kind_front d count =
     I Addi 28 0 (pos 2)
     ∷ B Bgeu 12 28 (pos 16)
     ∷ U Lui 28 (upper_of count)
@@ -143,7 +147,11 @@ kind_code d count =
     ∷ R Mul 29 10 29
     ∷ U Lui 30 0x4_0000
     ∷ R Add 30 30 29
-    ∷ zeros_code 0 (d / 8) ++ I Jalr 0 11 (pos 0) ∷ []
+    ∷ []
+
+-- whether the number in x12 is a kind and that in x10 the number of a cell, which becomes zeros of this kind
+abbrev pub kind_code : ℕ → ℕ → List Instr
+kind_code d count = kind_front d count ++ zeros_code 0 (d / 8) ++ I Jalr 0 11 (pos 0) ∷ []
 
 -- whether the number in x10 is 0 or 1, or 2 where that in x12 is the number of steps taken; into word 0 or 1 of the scratch region goes the number in x12
 abbrev pub state_code : List Instr
