@@ -18,6 +18,7 @@ use Rattle.sil_operands.specs.declared.operand.Operand.TheVariants.{Null, Expr, 
 use Rattle.sil_symbols.specs.declared.stmt.Stmt.{Stmt}
 use Rattle.sil_symbols.specs.Parts.{part_of, takes_size}
 use Rattle.sil_symbols.specs.Values.{first_expression}
+use Rattle.sil_symbols.specs.Addresses as symbols
 use Rattle.sil_symbols.specs.Addresses.{size_of, text_length, part_cells, past_part, past, spot_after, first_spot}
 use Rattle.sil_symbols.specs.Symbols.{size_names, value_of, extent}
 use Rattle.sil_symbols.specs.Rules.{with_fault, faults_from}
@@ -75,8 +76,19 @@ first_value values (Listed items ∷ operands) terms k first value = let no : �
 first_value values (Text text ∷ operands) terms k first value = let no : ⊥ = cc in absurd no
 
 -- each ARRAY and each BUFFER has a size
-abbrev AreSized : Parameters → List Stmt → List Stmt → Type 0
-AreSized p whole source = All (λ s. takes_size (part_of s.name) ≡ true → HasSize p whole s) source
+abbrev pub IsSizedBy : Parameters → List Stmt → Stmt → Type 0
+IsSizedBy p whole s = takes_size (part_of s.name) ≡ true → HasSize p whole s
+
+abbrev pub AreSized : Parameters → List Stmt → List Stmt → Type 0
+AreSized p whole source = All (IsSizedBy p whole) source
+
+-- a statement has as many cells as are counted for it
+pub cells_counted : (p : Parameters) (whole : List Stmt) (before : ℕ) (s : Stmt) → IsSizedBy p whole s → length (cells_of p.settings.sizes.descr (value_of p whole) before s) ≡ symbols.cells_of p.settings.sizes.descr (size_names p whole) s
+cells_counted p whole before s sized =
+    let size = p.settings.sizes.descr in
+    data_count size (value_of p whole) (pos (FIRST_CELL + (before + 2) * size)) s.name s.operands (size_of (size_names p whole) s)
+    (λ takes. let has = sized takes in
+    (has.size, has.counted, first_value (value_of p whole) s.operands has.terms has.size has.first has.value))
 
 after_count : (p : Parameters) (whole : List Stmt) (size : ℕ) (before : List Cell) (spot : _) (source : List Stmt) → AreSized p whole source → length before ≡ (spot_after size (size_names p whole) spot []).cells → length (cells_after size (value_of p whole) before source) ≡ (spot_after size (size_names p whole) spot source).cells
 after_count p whole size before spot [] sized h = h

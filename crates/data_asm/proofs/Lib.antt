@@ -1,3 +1,4 @@
 pub mod TextLemmas
 pub mod FitLemmas
 pub mod CountLemmas
+pub mod StandLemmas

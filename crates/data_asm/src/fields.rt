@@ -37,7 +37,7 @@ pub(crate) fn first_number(source: &ResolvedSource<'_>, operands: &[Operand]) ->
 }
 
 /// The text of the first operand.
-pub(crate) fn first_text(operands: &[Operand]) -> &[u8]
+pub fn first_text(operands: &[Operand]) -> &[u8]
     ensures { result.now ≡ first_text operands.now }
 {
     match operands.first() {

@@ -8,11 +8,18 @@ ghost use Rattle.sil_micro.specs.Expands.{Expands};
 ghost use Rattle.sil_micro.specs.Pieces.{weights};
 ghost use Rattle.exp_descr.specs.Group.{is_descr};
 
-use crate::moves::{incra, movd};
+use crate::descriptors::{
+    adjust, decra, getac, getd, getdc, getsiz, incra, incrv, mova, movd, movdic, movv, putac, putd,
+    putdc, putvc, resetf, rsetfi, setac, setav, setf, setfi, setsiz, setva, setvc,
+};
+use crate::operands::{
+    place_flag, place_number, place_number_place, place_number_twice, places_number, three_places,
+    two_places,
+};
 use sil_base::MAX_STATEMENTS;
 use sil_macros::Macro;
 use sil_micro::{Code, MAX_PIECE_WEIGHT, has_room};
-use sil_model::{Arg, Specials, Statement};
+use sil_model::{Specials, Statement};
 use std::alloc::{AllocError, Global};
 
 /// Expands statement number `at`. After an error the code may have a part of the statement's
@@ -34,9 +41,108 @@ pub fn expand_descr(
 {
     let _ = alloc;
     has_room(code, at);
-    match (statement.name, statement.args.items()) {
-        (Macro::Incra, [Arg::Place(d), Arg::Number(n)]) => incra(code, at, specials, *d, *n),
-        (Macro::Movd, [Arg::Place(d1), Arg::Place(d2)]) => movd(code, at, specials, *d1, *d2),
+    let args = statement.args.items();
+    match statement.name {
+        Macro::Adjust => {
+            let (d1, d2, d3) = three_places(args);
+            adjust(code, at, specials, d1, d2, d3)
+        }
+        Macro::Decra => {
+            let (d, n) = place_number(args);
+            decra(code, at, specials, d, n)
+        }
+        Macro::Getac => {
+            let (d1, d2, n) = places_number(args);
+            getac(code, at, specials, d1, d2, n)
+        }
+        Macro::Getd => {
+            let (d1, d2, d3) = three_places(args);
+            getd(code, at, specials, d1, d2, d3)
+        }
+        Macro::Getdc => {
+            let (d1, d2, n) = places_number(args);
+            getdc(code, at, specials, d1, d2, n)
+        }
+        Macro::Getsiz => {
+            let (d1, d2) = two_places(args);
+            getsiz(code, at, specials, d1, d2)
+        }
+        Macro::Incra => {
+            let (d, n) = place_number(args);
+            incra(code, at, specials, d, n)
+        }
+        Macro::Incrv => {
+            let (d, n) = place_number(args);
+            incrv(code, at, specials, d, n)
+        }
+        Macro::Mova => {
+            let (d1, d2) = two_places(args);
+            mova(code, at, specials, d1, d2)
+        }
+        Macro::Movd => {
+            let (d1, d2) = two_places(args);
+            movd(code, at, specials, d1, d2)
+        }
+        Macro::Movdic => {
+            let (d1, n1, d2, n2) = place_number_twice(args);
+            movdic(code, at, specials, d1, n1, d2, n2)
+        }
+        Macro::Movv => {
+            let (d1, d2) = two_places(args);
+            movv(code, at, specials, d1, d2)
+        }
+        Macro::Putac => {
+            let (d1, n, d2) = place_number_place(args);
+            putac(code, at, specials, d1, n, d2)
+        }
+        Macro::Putd => {
+            let (d1, d2, d3) = three_places(args);
+            putd(code, at, specials, d1, d2, d3)
+        }
+        Macro::Putdc => {
+            let (d1, n, d2) = place_number_place(args);
+            putdc(code, at, specials, d1, n, d2)
+        }
+        Macro::Putvc => {
+            let (d1, n, d2) = place_number_place(args);
+            putvc(code, at, specials, d1, n, d2)
+        }
+        Macro::Resetf => {
+            let (d, flags) = place_flag(args);
+            resetf(code, at, specials, d, flags)
+        }
+        Macro::Rsetfi => {
+            let (d, flags) = place_flag(args);
+            rsetfi(code, at, specials, d, flags)
+        }
+        Macro::Setac => {
+            let (d, n) = place_number(args);
+            setac(code, at, specials, d, n)
+        }
+        Macro::Setav => {
+            let (d1, d2) = two_places(args);
+            setav(code, at, specials, d1, d2)
+        }
+        Macro::Setf => {
+            let (d, flags) = place_flag(args);
+            setf(code, at, specials, d, flags)
+        }
+        Macro::Setfi => {
+            let (d, flags) = place_flag(args);
+            setfi(code, at, specials, d, flags)
+        }
+        Macro::Setsiz => {
+            let (d1, d2) = two_places(args);
+            setsiz(code, at, specials, d1, d2)
+        }
+        Macro::Setva => {
+            let (d1, d2) = two_places(args);
+            setva(code, at, specials, d1, d2)
+        }
+        Macro::Setvc => {
+            let (d, n) = place_number(args);
+            setvc(code, at, specials, d, n)
+        }
         _ => unreachable!(),
     }
 }

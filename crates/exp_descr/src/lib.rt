@@ -1,7 +1,8 @@
 // The expansions of the macros of descriptors into micro operations.
 #![tactic(auto)]
 
+mod descriptors;
 mod expansion;
-mod moves;
+mod operands;
 
 pub use expansion::expand_descr;

@@ -2,5 +2,7 @@
 #![tactic(auto)]
 
 mod expansion;
+mod laws;
 
 pub use expansion::expand_all;
+pub use laws::law_of_built_programs;

@@ -131,13 +131,13 @@ static REFUSED: [(&[u8], u8, &[u8]); 18] = [
         3,
         b"source 1 A1\nsource 3 A1\n",
     ),
-    (b"X DESCR 0,65536\n MOVD X\n END\n", 16, b"not built\n"),
+    (b"X DESCR 0,65536\n MOVD X\n END\n", 3, b"source 2 S1\n"),
     (b"L BRANCH L\n END\n", 16, b"not built\n"),
     (b"F FORMAT '(I3)'\n END\n", 16, b"not built\n"),
     (b" ENDEX X+1\nX DESCR\n END\n", 16, b"not built\n"),
     (b" ENDEX X+DESCR\nX DESCR\n END\n", 16, b"not built\n"),
     (b" ENDEX B\nB BUFFER 1\n END\n", 16, b"not built\n"),
-    (b" ENDEX X,X\nX DESCR\n END\n", 16, b"not built\n"),
+    (b" ENDEX X,X\nX DESCR\n END\n", 3, b"source 1 S1\n"),
 ];
 
 /// A line of the parameters, one in its place, a source, the status and the notes.
@@ -203,8 +203,8 @@ static FILES: [(&[(&str, &[u8])], u8, &[u8]); 11] = [
     ),
     (
         &[("SRC", b"L BRANCH L\n END\n"), ("TABLES", b"?")],
-        16,
-        b"not built\n",
+        3,
+        b"tables 1 T1\n",
     ),
     (
         &[(

@@ -134,7 +134,7 @@ static NOT_SAVED: [(&[(&str, &[u8])], u8); 12] = [
     ),
     (
         &[("PARAMS", STANDARD_PARAMS), ("TABLES", b"?"), ("SRC", SUM)],
-        16,
+        3,
     ),
 ];
 

@@ -158,23 +158,23 @@ fn bytes_are_refused_by_the_first_part_that_differs(rt: HostRuntime) -> Result<(
     Ok(())
 }
 
-/// Changes of two parts at once, and the part by which the bytes are refused: the first of the two.
-static FIRST_OF_TWO: [(Sample, [(usize, &[u8]); 2], u8); 6] = [
-    (Small, [(0, b"s"), (8, &[2])], 1),
-    (Small, [(8, &[2]), (12, &[17])], 2),
-    (Small, [(12, &[17]), (136, &[0])], 3),
-    (Small, [(136, &[0]), (166, &[1])], 5),
-    (Small, [(166, &[1]), (256, &[2])], 6),
-    (Tables, [(144, &[0x5a, 0xff, 0x0f, 0]), (156, &[5])], 9),
+/// Two changes at once, of unlike parts, and the part by which the bytes are refused: the first of the
+/// two.
+static FIRST_OF_TWO: [(Sample, usize, &[u8], usize, &[u8], u8); 6] = [
+    (Small, 0, b"s", 8, &[2], 1),
+    (Small, 8, &[2], 12, &[17], 2),
+    (Small, 12, &[17], 136, &[0], 3),
+    (Small, 136, &[0], 166, &[1], 5),
+    (Small, 166, &[1], 256, &[2], 6),
+    (Tables, 144, &[0x5a, 0xff, 0x0f, 0], 156, &[5], 9),
 ];
 
 #[test]
 fn of_two_parts_the_first_is_told(rt: HostRuntime) -> Result<(), Fail> {
-    for &(sample, changes, part) in &FIRST_OF_TWO {
+    for &(sample, place, new, next, more, part) in &FIRST_OF_TWO {
         let mut bytes = sample.bytes(rt.alloc())?;
-        for (place, new) in changes {
-            put_at(&mut bytes, place, new);
-        }
+        put_at(&mut bytes, place, new);
+        put_at(&mut bytes, next, more);
         assert_eq!(rt; refused_part(rt.alloc(), &bytes)?, Some(part));
     }
     Ok(())

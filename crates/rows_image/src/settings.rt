@@ -3,33 +3,34 @@ use crate::samples::Sample::Bare;
 use crate::samples::{put_at, refused_part};
 use std::test::Fail;
 
-const DESCR: usize = 0;
+// Where each number stands in the file.
+const DESCR: usize = 12;
 
-const AOFF: usize = 1;
+const AOFF: usize = 20;
 
-const FOFF: usize = 2;
+const FOFF: usize = 28;
 
-const FLEN: usize = 3;
+const FLEN: usize = 36;
 
-const VOFF: usize = 4;
+const VOFF: usize = 44;
 
-const VLEN: usize = 5;
+const VLEN: usize = 52;
 
-const FNC: usize = 6;
+const FNC: usize = 60;
 
-const MARK: usize = 7;
+const MARK: usize = 68;
 
-const PTR: usize = 8;
+const PTR: usize = 76;
 
-const STTL: usize = 9;
+const STTL: usize = 84;
 
-const TTL: usize = 10;
+const TTL: usize = 92;
 
-const STSIZE: usize = 11;
+const STSIZE: usize = 100;
 
-const DYNSIZ: usize = 12;
+const DYNSIZ: usize = 108;
 
-const OBSIZ: usize = 13;
+const OBSIZ: usize = 116;
 
 /// Settings other than the standard ones, and whether they are legal.
 static SETTINGS: [(&[(usize, u64)], bool); 67] = [
@@ -106,8 +107,8 @@ static SETTINGS: [(&[(usize, u64)], bool); 67] = [
 fn settings_are_legal_as_in_a_parameter_file(rt: HostRuntime) -> Result<(), Fail> {
     for &(changes, legal) in &SETTINGS {
         let mut bytes = Bare.bytes(rt.alloc())?;
-        for &(index, value) in changes {
-            put_at(&mut bytes, 12 + 8 * index, &value.to_le_bytes());
+        for &(place, value) in changes {
+            put_at(&mut bytes, place, &value.to_le_bytes());
         }
         let part = refused_part(rt.alloc(), &bytes)?;
         assert_eq!(rt; part, if legal { None } else { Some(3) }, "{changes:?}");
@@ -115,21 +116,21 @@ fn settings_are_legal_as_in_a_parameter_file(rt: HostRuntime) -> Result<(), Fail
     Ok(())
 }
 
-/// Bytes of the date, at 124, and whether the date is legal with them.
+/// Bytes of the date, from 124 to 131, and whether the date is legal with them.
 static DATES: [(usize, u8, bool); 6] = [
-    (0, 32, true),
-    (0, 31, false),
-    (7, 126, true),
-    (7, 127, false),
-    (3, 0, false),
-    (3, 255, false),
+    (124, 32, true),
+    (124, 31, false),
+    (131, 126, true),
+    (131, 127, false),
+    (127, 0, false),
+    (127, 255, false),
 ];
 
 #[test]
 fn a_date_is_eight_printed_bytes(rt: HostRuntime) -> Result<(), Fail> {
-    for (index, byte, legal) in DATES {
+    for (place, byte, legal) in DATES {
         let mut bytes = Bare.bytes(rt.alloc())?;
-        put_at(&mut bytes, 124 + index, &[byte]);
+        put_at(&mut bytes, place, &[byte]);
         let part = refused_part(rt.alloc(), &bytes)?;
         assert_eq!(rt; part, if legal { None } else { Some(3) });
     }

@@ -1,11 +1,13 @@
-// Worked rows of the macros on descriptors, comparisons and integers.
+// Worked rows of the macros on descriptors, comparisons and integers, and over cells of characters.
 #![tactic(auto)]
 
+mod characters;
 mod comparisons;
 mod descriptors;
 mod integers;
 mod row;
 
+use characters::{CHARACTERS, holds_over_characters};
 use comparisons::COMPARISONS;
 use descriptors::DESCRIPTORS;
 use integers::INTEGERS;
@@ -38,5 +40,14 @@ fn macros_that_compare_go_where_their_rows_say(rt: HostRuntime) -> Result<(), Fa
 #[test]
 fn macros_on_integers_give_what_their_rows_say(rt: HostRuntime) -> Result<(), Fail> {
     assert_eq!(rt; first_broken(rt.alloc(), &INTEGERS)?, None);
+    Ok(())
+}
+
+#[test]
+fn characters_are_no_descriptor_until_one_is_written(rt: HostRuntime) -> Result<(), Fail> {
+    for (i, &(name, ops, expected)) in CHARACTERS.iter().enumerate() {
+        let holds = holds_over_characters(rt.alloc(), name, ops, expected)?;
+        assert!(rt; holds, "{i}");
+    }
     Ok(())
 }

@@ -41,7 +41,8 @@ fn place_of(cell: u8) -> i64 {
     CELL + 16 * i64::from(cell)
 }
 
-fn arg_of(op: Op) -> Arg {
+/// The operand as statements have it.
+pub fn arg_of(op: Op) -> Arg {
     match op {
         Op::D(cell) => Arg::Place(place_of(cell)),
         Op::N(n) => Arg::Number(n),
@@ -96,7 +97,8 @@ pub fn holds(alloc: Global, row: &Row) -> Result<bool, Fail> {
     Ok(flow == row.flow && (flow.is_none() || are_as_expected(&cells, row)))
 }
 
-fn perform(name: Macro, args: &[Arg], cells: &mut Cells) -> Option<Flow> {
+/// What a macro of the rows does.
+pub fn perform(name: Macro, args: &[Arg], cells: &mut Cells) -> Option<Flow> {
     match name {
         Macro::Acomp => acomp(args, cells),
         Macro::Acompc => acompc(args, cells),

@@ -30,20 +30,23 @@ static SOURCES: [(&[u8], Outcome); 25] = [
         b" MOVD X\nX DESCR A\nA EQU A\n END\n",
         Outcome::Broken(3, b'V', 1),
     ),
-    (b" MOVD X\nX DESCR\n END\n", Outcome::NotBuilt),
-    (b" MOVD X,X,X\nX DESCR\n END\n", Outcome::NotBuilt),
-    (b" MOVD X,(X)\nX DESCR\n END\n", Outcome::NotBuilt),
+    (b" MOVD X\nX DESCR\n END\n", Outcome::Broken(1, b'S', 1)),
+    (b" MOVD X,X,X\nX DESCR\n END\n", Outcome::Broken(1, b'S', 1)),
+    (b" MOVD X,(X)\nX DESCR\n END\n", Outcome::Broken(1, b'S', 1)),
     (b" BRANCH X\nX ENDEX Z\nZ DESCR\n END\n", Outcome::NotBuilt),
     (b"F FORMAT '(I3)'\n END\n", Outcome::NotBuilt),
-    (b"S STRING\n END\n", Outcome::NotBuilt),
-    (b"X DESCR 1,2,3,4\n END\n", Outcome::NotBuilt),
+    (b"S STRING\n END\n", Outcome::Broken(1, b'S', 1)),
+    (b"X DESCR 1,2,3,4\n END\n", Outcome::Broken(1, b'S', 1)),
     (b"X DESCR 0,65535,4294967295\n END\n", Outcome::Built),
     (b"X DESCR 0,65536\n END\n", Outcome::Broken(1, b'A', 1)),
     (
         b"X DESCR 0,0,4294967296\n END\n",
         Outcome::Broken(1, b'A', 1),
     ),
-    (b"X DESCR 0,65536\n BRANCH X\n END\n", Outcome::NotBuilt),
+    (
+        b"X DESCR 0,65536\n BRANCH X\n END\n",
+        Outcome::Broken(2, b'S', 2),
+    ),
     (
         b" MOVD A+32,S\n MOVD S+16,P+16\nA ARRAY 3\nS STRING 'AB'\nP SPEC\n END\n",
         Outcome::Built,
@@ -94,7 +97,7 @@ static OTHERS: [(&[u8], &[u8], &[u8], Outcome); 8] = [
         b" BRANCH Z\nZ DESCR\n END\n",
         b"?",
         STANDARD_PARAMS,
-        Outcome::NotBuilt,
+        Outcome::Broken(1, b'S', 2),
     ),
     (
         b" ENDEX Z\nZ DESCR\n END\n",
@@ -163,7 +166,7 @@ static SHAPES: [(Macro, &[u8], bool); 48] = [
 ];
 
 /// The program of a source, by its tables file and its parameter file.
-fn checked(
+pub fn checked(
     alloc: Global,
     source: &[u8],
     tables: &[u8],

@@ -1,9 +1,9 @@
 -- The statements of good cards may be resolved.
 use Rattle.std.proofs.Common.{◌≡◌, ℕ, Bool, true, false, cond, List, [], ◌∷◌, Option, Some, None, ◌⊎◌, inl, inr, refl, sym, ap, ◌∙◌}
-use Rattle.std.specs.Prelude.{All, codes, is_some, unwrap_or}
+use Rattle.std.specs.Prelude.{All, IsTrue, codes, is_some, unwrap_or}
 use Rattle.std.specs.List.{find}
 use Rattle.std.specs.Str.{bytes_eq}
-use Rattle.std.proofs.lemmas.List.Elements.{All-head, All-tail}
+use Rattle.std.proofs.lemmas.List.Elements.{All-nil, All-cons, All-head, All-tail}
 use Rattle.std.proofs.lemmas.Slice.Eq.{bytes_eq-Decides}
 use Rattle.sil_macros.specs.declared.names.Macro.{Macro}
 use Rattle.sil_macros.specs.declared.names.Macro.TheVariants as macros
@@ -15,8 +15,14 @@ use Rattle.sil_cards.specs.Cards as cards
 use Rattle.sil_cards.specs.Cards.{IsGood}
 use Rattle.sil_symbols.specs.Parts.{part_of, is_end}
 use Rattle.sil_symbols.specs.Rules as rules
-use Rattle.sil_cards.specs.Contents.{operation_of}
-use Rattle.sil_check.specs.Statements.{statements_of}
+use Rattle.sil_operands.specs.declared.operand.Operand.{Operand}
+use Rattle.sil_operands.specs.Grammar.{SpellsOperands}
+use Rattle.sil_operands.specs.Limits.{are_within_limits}
+use Rattle.sil_operands.specs.Reading.{operands_of}
+use Rattle.sil_symbols.specs.declared.stmt.Stmt.{Stmt}
+use Rattle.sil_cards.specs.Contents.{operation_of, operands_at}
+use Rattle.sil_check.specs.Held.{HaveShortLists}
+use Rattle.sil_check.specs.Statements.{statement_of, statements_of}
 
 -- ---- macros by their names
 
@@ -68,3 +74,19 @@ ended [] good h = h
 ended (card ∷ []) good h = end_named card.operation h
 ended (card ∷ next ∷ more) good h =
     (no_end card.operation (All-head IsGood card (next ∷ more) good).operation h.0, ended (next ∷ more) (All-tail IsGood card (next ∷ more) good) h.1)
+
+-- ---- lists
+
+kept : (b : Bool) (o : Option (List Operand)) → ((operands : List Operand) → o ≡ Some operands → IsTrue (are_within_limits operands)) → are_within_limits (cond b [] (unwrap_or o [])) ≡ true
+kept true o h = refl
+kept false None h = refl
+kept false (Some operands) h = h operands refl
+
+-- the lists of a field that was read are short
+pub short_lists : ((field : List ℕ) (operands : List Operand) → operands_of field ≡ Some operands → SpellsOperands field operands × IsTrue (are_within_limits operands)) → (these : List CardParts) → HaveShortLists (statements_of these)
+unfolding operands_at
+short_lists read [] = All-nil (λ (s : Stmt). are_within_limits s.operands ≡ true)
+short_lists read (card ∷ more) =
+    All-cons (λ (s : Stmt). are_within_limits s.operands ≡ true) (statement_of card) (statements_of more)
+    (kept (is_word card.operation (codes "END")) (operands_of card.operands) (λ operands h. (read card.operands operands h).1))
+    (short_lists read more)

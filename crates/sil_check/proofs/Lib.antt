@@ -1,7 +1,7 @@
 pub mod StandardLemmas
 pub mod Made
-pub mod Resolved
 pub mod CardLemmas
 pub mod VerdictLemmas
+pub mod ScopeLemmas
 pub mod ArgLemmas
 pub mod ProgramLemmas

@@ -1,14 +1,16 @@
 -- Lists that are made item by item.
 use Rattle.std.proofs.Common.{◌≡◌, ℕ, ◌+◌, ◌<◌, suc, Bool, true, false, cond, List, [], ◌∷◌, ◌++◌, length, get_or, drop, Option, Some, None, refl, sym, ap, ◌∙◌, append_assoc, add-one, arith}
-use Rattle.std.specs.Prelude.{option_map}
+use Rattle.std.specs.Prelude.{option_map, ℤ}
 use Rattle.std.proofs.Math.Seq.{drop-cons}
 use Rattle.sil_macros.specs.declared.shapes.Place.{Place}
 use Rattle.sil_macros.specs.Rows.{row}
+use Rattle.sil_operands.specs.declared.expr.Term.{Term}
 use Rattle.sil_operands.specs.declared.operand.Operand.{Operand}
+use Rattle.sil_shapes.specs.Rules.{Measure}
 use Rattle.sil_symbols.specs.declared.stmt.Stmt.{Stmt}
 use Rattle.sil_model.specs.declared.program.Arg.{Arg}
 use Rattle.sil_model.specs.declared.program.Statement.{Statement}
-use Rattle.sil_check.specs.Arguments.{Scope, and_before, arg_of, args_of, first_of, rest_of}
+use Rattle.sil_check.specs.Arguments.{Scope, and_before, arg_of, args_of, first_of, rest_of, place_in, places_in, location_in, locations_in}
 use Rattle.sil_check.specs.Programs.{machine_statement, machine_statements}
 
 -- the items that are made already stand before those that are made next
@@ -50,6 +52,34 @@ fitted scope places i place operands made x h is some =
     ap (λ ps. after made (args_of scope ps operands)) (first_left places i place h is)
     ∙ ap (λ o. after made (and_before o (args_of scope (drop (i + 1) places) (rest_of operands)))) some
     ∙ after_push made x (args_of scope (drop (i + 1) places) (rest_of operands))
+
+-- ---- lists
+
+pub unfit_place : (m : Measure) (items : List (Option (List Term))) (i : ℕ) (item : Option (List Term)) (made : List ℤ) →
+    i < length items → item ≡ get_or items i item → place_in m item ≡ None → after made (places_in m (drop i items)) ≡ None
+unfit_place m items i item made h is none =
+    ap (λ xs. after made (places_in m xs)) (first_left items i item h is)
+    ∙ ap (after made) (unfit_first (place_in m item) (places_in m (drop (i + 1) items)) none)
+
+pub fitted_place : (m : Measure) (items : List (Option (List Term))) (i : ℕ) (item : Option (List Term)) (made : List ℤ) (x : ℤ) →
+    i < length items → item ≡ get_or items i item → place_in m item ≡ Some x → after made (places_in m (drop i items)) ≡ after (made ++ x ∷ []) (places_in m (drop (i + 1) items))
+fitted_place m items i item made x h is some =
+    ap (λ xs. after made (places_in m xs)) (first_left items i item h is)
+    ∙ ap (λ o. after made (and_before o (places_in m (drop (i + 1) items)))) some
+    ∙ after_push made x (places_in m (drop (i + 1) items))
+
+pub unfit_location : (m : Measure) (items : List (Option (List Term))) (i : ℕ) (item : Option (List Term)) (made : List (Option ℕ)) →
+    i < length items → item ≡ get_or items i item → location_in m item ≡ None → after made (locations_in m (drop i items)) ≡ None
+unfit_location m items i item made h is none =
+    ap (λ xs. after made (locations_in m xs)) (first_left items i item h is)
+    ∙ ap (after made) (unfit_first (location_in m item) (locations_in m (drop (i + 1) items)) none)
+
+pub fitted_location : (m : Measure) (items : List (Option (List Term))) (i : ℕ) (item : Option (List Term)) (made : List (Option ℕ)) (x : Option ℕ) →
+    i < length items → item ≡ get_or items i item → location_in m item ≡ Some x → after made (locations_in m (drop i items)) ≡ after (made ++ x ∷ []) (locations_in m (drop (i + 1) items))
+fitted_location m items i item made x h is some =
+    ap (λ xs. after made (locations_in m xs)) (first_left items i item h is)
+    ∙ ap (λ o. after made (and_before o (locations_in m (drop (i + 1) items)))) some
+    ∙ after_push made x (locations_in m (drop (i + 1) items))
 
 -- ---- statements
 

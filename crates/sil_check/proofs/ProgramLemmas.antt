@@ -13,7 +13,13 @@ use Rattle.sil_macros.specs.declared.names.Macro.{Macro}
 use Rattle.sil_macros.specs.declared.names.Macro.TheVariants as macros
 use Rattle.sil_macros.specs.Rows.{row}
 use Rattle.sil_symbols.specs.declared.stmt.Stmt.{Stmt}
-use Rattle.sil_symbols.specs.Parts.{part_of}
+use Rattle.sil_base.specs.declared.line.Fault.{Fault}
+use Rattle.sil_operands.specs.Limits.{are_within_limits}
+use Rattle.sil_symbols.specs.Laws.{LawOfValues}
+use Rattle.sil_symbols.specs.Parts.{part_of, is_format}
+use Rattle.sil_symbols.specs.Rules.{faults_from, with_fault}
+use Rattle.sil_shapes.specs.Locations.{executable_count, statement_at, number_within}
+use Rattle.data_asm.specs.Fields.{first_text}
 use Rattle.sil_symbols.specs.Addresses.{cells_of, past_part, past, spot_after, first_spot}
 use Rattle.sil_symbols.specs.Symbols.{size_names, value_of_name, extent, IsWithinLimits}
 use Rattle.sil_base.specs.declared.places.TheConstants.{FIRST_CELL}
@@ -31,15 +37,12 @@ use Rattle.sil_format.specs.Grammar.{IsFormat}
 use Rattle.sil_model.specs.WellFormed.{AreSpecials, IsWellFormed}
 use Rattle.syntax_tables.specs.declared.saying.Said.{Said}
 use Rattle.sil_check.specs.Arguments.{is_descriptor, is_descriptor_at, is_static, Scope, scope_of, and_before, args_of}
-use Rattle.sil_check.specs.Specials.{number_within, specials_of, statement_at}
-use Rattle.sil_check.specs.Shapes.{fits}
-use Rattle.sil_check.specs.Programs.{statement_with, machine_statement, machine_statements, program_with, is_static_program, is_static_statement}
+use Rattle.sil_check.specs.Specials.{special_faults, special_rule, specials_in}
+use Rattle.sil_check.specs.Programs.{formats_of, statement_with, machine_statement, machine_statements, program_with, is_static_program, is_static_statement}
 use Rattle.sil_check.specs.Verdicts.{is_assembled, is_built_macro, is_built_statement}
-use Rattle.sil_check.specs.Held.{HasFitArgs, HasFitPlaces, IsProgramOf}
-use Rattle.sil_check.proofs.ArgLemmas.{IsFirst, first_is, args_fit, args_within}
-
-both : (a b : Bool) → (a && b) ≡ true → (a ≡ true) × (b ≡ true)
-both a b h = grind arith
+use Rattle.sil_check.specs.Held.{HasFitPlaces, HaveShortLists, IsProgramOf}
+use Rattle.sil_check.proofs.ArgLemmas.{IsFirst, args_fit, both, first_is}
+use Rattle.sil_check.proofs.ScopeLemmas.{IsScope, scope_is}
 
 -- ---- places
 
@@ -91,24 +94,35 @@ counted_once macros.String n spot = refl
 counted_once macros.Title n spot = refl
 counted_once _ n spot = refl
 
--- as many statements are made as are counted
-counted : (scope : Scope) (descr : ℕ) (names : _) (spot : _) (source : List Stmt) (made : List Statement) → machine_statements scope source ≡ Some made → (spot_after descr names spot source).statements ≡ spot.statements + length made
-counted scope descr names spot [] made h =
-    let is : made ≡ [] = cc in
-    rw is (omega arith)
-counted scope descr names spot (s ∷ source) made h =
-    let once = counted_once s.name (cells_of descr names s) spot in
+counted_if : (b : Bool) (n more : ℕ) → cond b n (n + 1) + more ≡ n + cond b more (more + 1)
+counted_if true n more = refl
+counted_if false n more = omega arith
+
+-- the executable statements are counted
+counted : (descr : ℕ) (names : _) (spot : _) (source : List Stmt) → (spot_after descr names spot source).statements ≡ spot.statements + executable_count source
+counted descr names spot [] = omega arith
+counted descr names spot (s ∷ source) =
+    counted descr names (past descr names spot s) source
+    ∙ ap (λ n. n + executable_count source) (counted_once s.name (cells_of descr names s) spot)
+    ∙ counted_if (row s.name).assembly spot.statements (executable_count source)
+
+passed_if : (b : Bool) (n : ℕ) → b ≡ true → cond b n (n + 1) ≡ n
+passed_if b n h = rw h refl
+
+taken_if : (b : Bool) (n : ℕ) → b ≡ false → cond b n (n + 1) ≡ n + 1
+taken_if b n h = rw h refl
+
+-- as many statements are made as are executable
+made_count : (scope : Scope) (source : List Stmt) (made : List Statement) → machine_statements scope source ≡ Some made → executable_count source ≡ length made
+made_count scope [] made h = let is : made ≡ [] = cc in rw is refl
+made_count scope (s ∷ source) made h =
     elim (step_is (row s.name).assembly (machine_statement scope s) (machine_statements scope source) made h) [
-      | inl e ↦
-          let next = counted scope descr names (past descr names spot s) source made e.1 in
-          let same : (past descr names spot s).statements ≡ spot.statements = once ∙ ap (λ b. cond b spot.statements (spot.statements + 1)) e.0 in
-          omega (arith, next, same)
+      | inl e ↦ passed_if (row s.name).assembly (executable_count source) e.0 ∙ made_count scope source made e.1
       | inr e ↦
           let (item, more, first, rest, is) = e.1 in
-          let next = counted scope descr names (past descr names spot s) source more rest in
-          let same : (past descr names spot s).statements ≡ spot.statements + 1 = once ∙ ap (λ b. cond b spot.statements (spot.statements + 1)) e.0 in
+          let next = made_count scope source more rest in
           let count : length made ≡ length more + 1 = rw is (omega arith) in
-          omega (arith, next, same, count)
+          taken_if (row s.name).assembly (executable_count source) e.0 ∙ omega (arith, next, count)
     ]
 
 -- ---- statements of a program
@@ -123,63 +137,94 @@ is_built_of : (a b : Bool) → (a || b) ≡ true → a ≡ false → b ≡ true
 is_built_of a b h unlike = grind arith
 
 -- what holds of each statement that is made
-pub record IsFit (b : Bounds) (statement : Statement) : Type 0 where
+pub record IsFit (b : Bounds) (specials : Specials) (statement : Statement) : Type 0 where
   pub row : FitsRow b statement
   pub built : is_built statement.name ≡ true
+  pub needed : has_needed specials statement.name ≡ true
 
-statement_fits : (b : Bounds) (scope : Scope) (s : Stmt) (o : Option (List Arg)) (made : Statement) → args_of scope (row s.name).places s.operands ≡ o → option_map (statement_with s) o ≡ Some made →
-    (row s.name).assembly ≡ false → is_built_macro s.name ≡ true → HasFitArgs b.tables made → IsFit b made
-statement_fits b scope s None made e h runs built numbers = let no : ⊥ = cc in absurd no
-statement_fits b scope s (Some args) made e h runs built numbers =
+-- and of each statement that it is made of
+pub record IsSound (specials : Specials) (s : Stmt) : Type 0 where
+  pub built : is_built_macro s.name ≡ true
+  pub needed : has_needed specials s.name ≡ true
+  pub lists : are_within_limits s.operands ≡ true
+
+statement_fits : (b : Bounds) (specials : Specials) (scope : Scope) → IsScope b scope → (s : Stmt) (o : Option (List Arg)) (made : Statement) → args_of scope (row s.name).places s.operands ≡ o → option_map (statement_with s) o ≡ Some made →
+    (row s.name).assembly ≡ false → IsSound specials s → IsFit b specials made
+statement_fits b specials scope are s None made e h runs sound = let no : ⊥ = cc in absurd no
+statement_fits b specials scope are s (Some args) made e h runs sound =
     let is : made ≡ statement_with s args = cc in
-    let these : HasFitArgs b.tables (statement_with s args) = rw is at numbers in
+    let (shape, within) = args_fit b scope are (row s.name).places s.operands args sound.lists e in
     rw is (record {
-      row = record {
-        runs = runs;
-        shape = args_fit scope (row s.name).places s.operands args e;
-        within = args_within b scope (row s.name).places s.operands args e these;
-      };
-      built = is_built_of (is_assembled s.name) (is_built s.name) built (not_assembled s.name runs);
+      row = record { runs = runs; shape = shape; within = within };
+      built = is_built_of (is_assembled s.name) (is_built s.name) sound.built (not_assembled s.name runs);
+      needed = sound.needed;
     })
 
-statements_fit : (b : Bounds) (scope : Scope) (source : List Stmt) (made : List Statement) → list_all is_built_statement source ≡ true → machine_statements scope source ≡ Some made → All (HasFitArgs b.tables) made → All (IsFit b) made
-statements_fit b scope [] made built h numbers =
+statements_fit : (b : Bounds) (specials : Specials) (scope : Scope) → IsScope b scope → (source : List Stmt) (made : List Statement) → All (IsSound specials) source → machine_statements scope source ≡ Some made → All (IsFit b specials) made
+statements_fit b specials scope are [] made sound h =
     let is : made ≡ [] = cc in
-    rw is (All-nil (IsFit b))
-statements_fit b scope (s ∷ source) made built h numbers =
-    let (this, others) = both (is_built_statement s) (list_all is_built_statement source) built in
+    rw is (All-nil (IsFit b specials))
+statements_fit b specials scope are (s ∷ source) made sound h =
+    let this = All-head (IsSound specials) s source sound in
+    let others = All-tail (IsSound specials) s source sound in
     elim (step_is (row s.name).assembly (machine_statement scope s) (machine_statements scope source) made h) [
-      | inl e ↦ statements_fit b scope source made others e.1 numbers
+      | inl e ↦ statements_fit b specials scope are source made others e.1
       | inr e ↦
           let (item, more, first, rest, is) = e.1 in
-          let all : All (HasFitArgs b.tables) (item ∷ more) = rw is at numbers in
-          let name = (both (is_built_macro s.name) (fits s.name s.operands) this).0 in
-          let fit = statement_fits b scope s (args_of scope (row s.name).places s.operands) item refl first e.0 name (All-head (HasFitArgs b.tables) item more all) in
-          rw is (All-cons (IsFit b) item more fit (statements_fit b scope source more others rest (All-tail (HasFitArgs b.tables) item more all)))
+          let fit = statement_fits b specials scope are s (args_of scope (row s.name).places s.operands) item refl first e.0 this in
+          rw is (All-cons (IsFit b specials) item more fit (statements_fit b specials scope are source more others rest))
     ]
 
+-- ---- statements without a fault
+
+no_rule : (letter card : ℕ) (o : Option ℕ) (faults : List Fault) → with_fault letter card o faults ≡ [] → (o ≡ None) × (faults ≡ [])
+no_rule letter card None faults h = (refl, h)
+no_rule letter card (Some rule) faults h = let no : ⊥ = cc in absurd no
+
+needed_of : (b : Bool) → cond {A = Option ℕ} b None (Some 1) ≡ None → b ≡ true
+needed_of true h = refl
+needed_of false h = let no : ⊥ = cc in absurd no
+
+all_sound : (specials : Specials) (place : ℕ) (source : List Stmt) → faults_from 80 (special_rule specials) place source ≡ [] → list_all is_built_statement source ≡ true → HaveShortLists source → All (IsSound specials) source
+all_sound specials place [] none built short = All-nil (IsSound specials)
+all_sound specials place (s ∷ source) none built short =
+    let (rule, rules) = no_rule 80 s.card (special_rule specials place s) (faults_from 80 (special_rule specials) (place + 1) source) none in
+    let (this, others) = both (is_built_statement s) (list_all is_built_statement source) built in
+    let one : IsSound specials s = record {
+      built = this;
+      needed = needed_of (has_needed specials s.name) rule;
+      lists = All-head (λ (t : Stmt). are_within_limits t.operands ≡ true) s source short;
+    } in
+    All-cons (IsSound specials) s source one (all_sound specials (place + 1) source rules others (All-tail (λ (t : Stmt). are_within_limits t.operands ≡ true) s source short))
+
+sound : (p : Parameters) (source : List Stmt) → special_faults p source ≡ [] → list_all is_built_statement source ≡ true → HaveShortLists source → All (IsSound (specials_in p source)) source
+unfolding special_faults
+sound p source none built short = all_sound (specials_in p source) 0 source none built short
+
+-- no FORMAT is installed so far
+no_format : (m : Macro) → is_built_macro m ≡ true → is_format (part_of m) ≡ false
+unfolding is_built
+no_format macros.Format h = let no : ⊥ = cc in absurd no
+no_format _ h = refl
+
+unlisted : (b : Bool) (text : List ℕ) (texts : List (List ℕ)) → b ≡ false → cond b (text ∷ texts) texts ≡ texts
+unlisted b text texts h = rw h refl
+
+no_formats : (source : List Stmt) → list_all is_built_statement source ≡ true → formats_of source ≡ []
+no_formats [] h = refl
+no_formats (s ∷ source) h =
+    let (this, others) = both (is_built_statement s) (list_all is_built_statement source) h in
+    unlisted (is_format (part_of s.name)) (first_text s.operands) (formats_of source) (no_format s.name this) ∙ no_formats source others
+
 -- each statement is of a macro that is installed, over static cells
-statements_built : (b : Bounds) (cells : List Cell) (statements : List Statement) → All (IsFit b) statements → list_all (is_static_statement 16 cells) statements ≡ true → All (IsBuilt 16 (length cells)) statements
-statements_built b cells [] fit h = All-nil (IsBuilt 16 (length cells))
-statements_built b cells (s ∷ statements) fit h =
+statements_built : (b : Bounds) (specials : Specials) (cells : List Cell) (statements : List Statement) → All (IsFit b specials) statements → list_all (is_static_statement 16 cells) statements ≡ true → All (IsBuilt 16 (length cells)) statements
+statements_built b specials cells [] fit h = All-nil (IsBuilt 16 (length cells))
+statements_built b specials cells (s ∷ statements) fit h =
     let (this, others) = both (is_static_statement 16 cells s) (list_all (is_static_statement 16 cells) statements) h in
-    let one : IsBuilt 16 (length cells) s = record { name = (All-head (IsFit b) s statements fit).built; places = static_args cells s.args this } in
-    All-cons (IsBuilt 16 (length cells)) s statements one (statements_built b cells statements (All-tail (IsFit b) s statements fit) others)
+    let one : IsBuilt 16 (length cells) s = record { name = (All-head (IsFit b specials) s statements fit).built; places = static_args cells s.args this } in
+    All-cons (IsBuilt 16 (length cells)) s statements one (statements_built b specials cells statements (All-tail (IsFit b specials) s statements fit) others)
 
 -- ---- special symbols
-
--- no macro that is installed so far needs one
-needs_none : (specials : Specials) (m : Macro) → is_built m ≡ true → has_needed specials m ≡ true
-unfolding is_built
-needs_none specials macros.Rcall h = let no : ⊥ = cc in absurd no
-needs_none specials macros.Push h = let no : ⊥ = cc in absurd no
-needs_none specials macros.Spush h = let no : ⊥ = cc in absurd no
-needs_none specials macros.Pop h = let no : ⊥ = cc in absurd no
-needs_none specials macros.Spop h = let no : ⊥ = cc in absurd no
-needs_none specials macros.Stream h = let no : ⊥ = cc in absurd no
-needs_none specials macros.Init h = let no : ⊥ = cc in absurd no
-needs_none specials macros.Spcint h = let no : ⊥ = cc in absurd no
-needs_none specials _ h = refl
 
 statement_within : (size count : ℕ) (b : Bounds) (value : Option ℤ) → count ≤ b.statements → IsStatement b (option_and_then (statement_at size count) value)
 statement_within size count b None h = tt
@@ -220,44 +265,46 @@ few_cells p source count same limits is =
     omega (arith, hidden, also, limits.cells)
 
 -- the special symbols of a program that was made
-specials_fit : (p : Parameters) (source : List Stmt) (lines : List Said) (cells : List Cell) (made : List Statement) (program : Program) → program ≡ program_with p source lines cells made → HasFitPlaces program.specials →
-    All (IsFit (bounds_of program p.settings)) program.statements → AreSpecials program p.settings
-specials_fit p source lines cells made program is places fit =
+specials_fit : (p : Parameters) (source : List Stmt) (program : Program) → program.specials ≡ specials_in p source → executable_count source ≤ (bounds_of program p.settings).statements → HasFitPlaces program.specials →
+    All (λ (s : Statement). has_needed program.specials s.name ≡ true) program.statements → AreSpecials program p.settings
+specials_fit p source program specials count places needed =
     let size = p.settings.sizes.descr in
     let values = value_of_name p source in
-    let specials : program.specials ≡ specials_of size (length made) (value_limit p.settings.sizes) values = ap (λ q. q.specials) is in
-    let count : length made ≤ (bounds_of program p.settings).statements = omega (arith, ap (λ q. length q.statements) is) in
     record {
-      over = rw (ap (λ s. s.over) specials) (statement_within size (length made) (bounds_of program p.settings) (values (codes "OVER")) count);
-      under = rw (ap (λ s. s.under) specials) (statement_within size (length made) (bounds_of program p.settings) (values (codes "INTR10")) count);
+      over = rw (ap (λ s. s.over) specials) (statement_within size (executable_count source) (bounds_of program p.settings) (values (codes "OVER")) count);
+      under = rw (ap (λ s. s.under) specials) (statement_within size (executable_count source) (bounds_of program p.settings) (values (codes "INTR10")) count);
       stype = places.stype;
       first = places.first;
       head = places.head;
       tail = places.tail;
       int_code = rw (ap (λ s. s.int_code) specials) (number_most (value_limit p.settings.sizes) (values (codes "I")));
-      needed = All-weaker (IsFit (bounds_of program p.settings)) (λ (s : Statement). has_needed program.specials s.name ≡ true) (λ s h. needs_none program.specials s.name h.built) program.statements fit;
+      needed = needed;
     }
 
-pub checked : (p : Parameters) (source : List Stmt) (program : Program) → IsProgramOf p source program → IsChecked p.settings program
-checked p source program h =
+pub checked : LawOfValues → (p : Parameters) (source : List Stmt) (program : Program) → IsProgramOf p source program → IsChecked p.settings program
+checked values_fit p source program h =
     let over = h.made in
     let scope = scope_of p source h.lines in
     let (made, made_is, is) = found p source h.lines program.cells (machine_statements scope source) program over.made in
     let size : p.settings.sizes.descr ≡ 16 = ap (λ s. s.descr) over.standard in
     let b = bounds_of program p.settings in
     let statements : program.statements ≡ made = ap (λ q. q.statements) is in
-    let formats : program.formats ≡ [] = ap (λ q. q.formats) is in
-    let args : All (HasFitArgs b.tables) made = subst (All (HasFitArgs b.tables)) statements over.args in
-    let fit : All (IsFit b) program.statements = subst (All (IsFit b)) (sym statements) (statements_fit b scope source made h.built made_is args) in
-    let count = counted scope p.settings.sizes.descr (size_names p source) first_spot source made made_is in
-    let all = few_cells p source (length program.cells) over.standard h.limits h.count in
+    let texts : program.formats ≡ formats_of source = ap (λ q. q.formats) is in
+    let formats : program.formats ≡ [] = texts ∙ no_formats source over.built in
+    let specials : program.specials ≡ specials_in p source = ap (λ q. q.specials) is in
     let same : length program.statements ≡ length made = ap length statements in
+    let count : executable_count source ≡ b.statements = made_count scope source made made_is ∙ sym same in
+    let are = scope_is values_fit p source h.lines b count (sym over.named) (sym texts) refl in
+    let sounds = subst (λ (x : Specials). All (IsSound x) source) (sym specials) (sound p source over.needs over.built h.lists) in
+    let fit : All (IsFit b program.specials) program.statements = subst (All (IsFit b program.specials)) (sym statements) (statements_fit b program.specials scope are source made sounds made_is) in
+    let executable = counted p.settings.sizes.descr (size_names p source) first_spot source in
+    let all = few_cells p source (length program.cells) over.standard h.limits h.count in
     let static : is_static_program 16 program ≡ true = subst (λ n. is_static_program n program ≡ true) size over.static in
     record {
       well_formed = record {
         legal = over.legal.settings;
-        statements = omega (arith, count, same, h.limits.executable);
-        rows = All-weaker (IsFit b) (FitsRow b) (λ s f. f.row) program.statements fit;
+        statements = omega (arith, executable, count, h.limits.executable);
+        rows = All-weaker (IsFit b program.specials) (FitsRow b) (λ s f. f.row) program.statements fit;
         cells = h.fit;
         cell_count = all;
         table_count = over.table_count;
@@ -265,7 +312,7 @@ checked p source program h =
         formats = subst (All IsFormat) (sym formats) (All-nil IsFormat);
         format_lengths = subst (All (λ text. length text ≤ 256)) (sym formats) (All-nil (λ text. length text ≤ 256));
         format_bytes = omega (arith, ap (sum_by length) formats);
-        specials = specials_fit p source h.lines program.cells made program is over.specials fit;
+        specials = specials_fit p source program specials (omega (arith, count)) over.specials (All-weaker (IsFit b program.specials) (λ (s : Statement). has_needed program.specials s.name ≡ true) (λ s f. f.needed) program.statements fit);
       };
-      built = rw size (statements_built b program.cells program.statements fit static);
+      built = rw size (statements_built b program.specials program.cells program.statements fit static);
     }

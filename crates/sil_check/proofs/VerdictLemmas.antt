@@ -1,59 +1,45 @@
 -- The verdict where everything but the program is settled.
 use Rattle.std.proofs.Common.{◌≡◌, ℕ, Bool, true, false, List, [], ◌∷◌, Option, Some, refl, sym, subst, ap, ◌∙◌}
 use Rattle.std.specs.Prelude.{Result, Ok, Err, MatchResult, IsErrAnd}
-use Rattle.std.specs.List.{list_all}
 use Rattle.layout_params.specs.declared.cell.Cell.{Cell}
 use Rattle.layout_params.specs.Parameters.{Parameters}
-use Rattle.sil_base.specs.declared.line.Fault.{Fault}
 use Rattle.sil_symbols.specs.declared.stmt.Stmt.{Stmt}
-use Rattle.sil_symbols.specs.Rules.{faults_of}
 use Rattle.data_asm.specs.Cells.{static_cells_of}
-use Rattle.data_asm.specs.Faults.{data_faults}
 use Rattle.sil_model.specs.declared.program.Program.{Program}
 use Rattle.sil_check.specs.declared.stop.CheckStop.{CheckStop}
 use Rattle.sil_check.specs.declared.stop.CheckStop.TheVariants as stop
-use Rattle.sil_base.specs.declared.fault_stop.FaultStop.{FaultStop}
-use Rattle.sil_base.specs.declared.fault_stop.FaultStop.TheVariants as below
-use Rattle.sil_base.specs.Faults.{IsStopFor as IsFaultStopFor}
 use Rattle.syntax_tables.specs.declared.saying.Said.{Said}
-use Rattle.syntax_tables.specs.Files.{written_of, is_free}
 use Rattle.sil_check.specs.Held.{IsUnmade}
-use Rattle.sil_check.specs.Tables.{table_faults}
 use Rattle.sil_check.specs.Programs.{program_over, program_of, is_static_program}
-use Rattle.sil_check.specs.Standard.{is_standard}
-use Rattle.sil_check.specs.Verdicts.{is_built_statement, stop_below, unless_faults, if_built, made, with_lines, verdict_with, verdict_of, IsStopFor}
-
-faultless : (faults : List Fault) (next : Result Program CheckStop) → faults ≡ [] → unless_faults faults next ≡ next
-faultless faults next h = rw h refl
+use Rattle.sil_check.specs.Verdicts.{is_built_source, if_built, made, verdict_built, IsStopFor}
 
 built : (b : Bool) (next : Result Program CheckStop) → b ≡ true → if_built b next ≡ next
 built b next h = rw h refl
 
-module _ (p : Parameters) (source : List Stmt) (lines : List Said) (cells : List Cell) (tables_fine : table_faults p source lines ≡ []) (are_cells : cells ≡ static_cells_of p source) where
+module _ (p : Parameters) (source : List Stmt) (lines : List Said) (cells : List Cell) (are_cells : cells ≡ static_cells_of p source) where
   -- what is left of the verdict: the program over the static cells
-  program_left : is_standard p.settings.sizes ≡ true → verdict_with p source lines ≡ made p.settings.sizes.descr (program_over p source lines cells)
+  program_left : is_built_source p source ≡ true → verdict_built p source lines ≡ made p.settings.sizes.descr (program_over p source lines cells)
   unfolding program_of
   program_left h =
-      faultless (table_faults p source lines) _ tables_fine
-      ∙ built (is_standard p.settings.sizes) _ h
+      built (is_built_source p source) _ h
       ∙ ap (λ cs. made p.settings.sizes.descr (program_over p source lines cs)) (sym are_cells)
 
   if_static : (b : Bool) (program : Program) (o : Option Program) (size : ℕ) → o ≡ Some program → is_static_program size program ≡ b → made size o ≡ if_built b (Ok program)
   if_static b program o size some is = rw (some, is) refl
 
-  pub answered : (program : Program) → is_standard p.settings.sizes ≡ true → program_over p source lines cells ≡ Some program → is_static_program p.settings.sizes.descr program ≡ true → verdict_with p source lines ≡ Ok program
-  answered program standard some is = program_left standard ∙ if_static true program (program_over p source lines cells) p.settings.sizes.descr some is
+  pub answered : (program : Program) → is_built_source p source ≡ true → program_over p source lines cells ≡ Some program → is_static_program p.settings.sizes.descr program ≡ true → verdict_built p source lines ≡ Ok program
+  answered program all_built some is = program_left all_built ∙ if_static true program (program_over p source lines cells) p.settings.sizes.descr some is
 
-  pub refused : (program : Program) → is_standard p.settings.sizes ≡ true → program_over p source lines cells ≡ Some program → is_static_program p.settings.sizes.descr program ≡ false → verdict_with p source lines ≡ Err stop.NotBuilt
-  refused program standard some is = program_left standard ∙ if_static false program (program_over p source lines cells) p.settings.sizes.descr some is
+  pub refused : (program : Program) → is_built_source p source ≡ true → program_over p source lines cells ≡ Some program → is_static_program p.settings.sizes.descr program ≡ false → verdict_built p source lines ≡ Err stop.NotBuilt
+  refused program all_built some is = program_left all_built ∙ if_static false program (program_over p source lines cells) p.settings.sizes.descr some is
 
   stopped_by : (answer : Result Program CheckStop) (size : ℕ) (o : Option Program) (e : CheckStop) → answer ≡ made size o → IsUnmade o e → IsStopFor answer e
   stopped_by answer size o (stop.Faults faults) is h = absurd h
   stopped_by answer size o stop.NotBuilt is h = is ∙ ap (made size) h
   stopped_by answer size o stop.Memory is h = tt
 
-  pub stopped : (e : CheckStop) → is_standard p.settings.sizes ≡ true → IsUnmade (program_over p source lines cells) e → IsStopFor (verdict_with p source lines) e
-  stopped e standard unmade = stopped_by (verdict_with p source lines) p.settings.sizes.descr (program_over p source lines cells) e (program_left standard) unmade
+  pub stopped : (e : CheckStop) → is_built_source p source ≡ true → IsUnmade (program_over p source lines cells) e → IsStopFor (verdict_built p source lines) e
+  stopped e all_built unmade = stopped_by (verdict_built p source lines) p.settings.sizes.descr (program_over p source lines cells) e (program_left all_built) unmade
 
 pub answers_stop : (answer : Result Program CheckStop) (r : Result Program CheckStop) (e : CheckStop) → IsErrAnd r (λ x. x ≡ e) → IsStopFor answer e → MatchResult r (λ program. answer ≡ Ok program) (IsStopFor answer)
 answers_stop answer (Ok program) e h stops = absurd h

@@ -1,6 +1,5 @@
 -- The operands of executable statements, as the machine takes them.
-use Rattle.std.specs.Prelude.{ℕ, ◌-◌, ◌/◌, ◌%◌, ◌<◌, nat_le, List, [], ◌∷◌, codes, Option, Some, None, option_map, option_and_then, slice_get, Bool, true, false, ◌&&◌, ◌==◌, if◌then◌else◌, ℤ, pos, negsuc, FitsSigned}
-use Rattle.std.specs.Int.{w64}
+use Rattle.std.specs.Prelude.{ℕ, ◌-◌, ◌/◌, ◌%◌, nat_le, List, [], ◌∷◌, codes, Option, Some, None, option_map, option_and_then, slice_get, Bool, true, false, ◌&&◌, ◌==◌, if◌then◌else◌, ℤ, pos, negsuc}
 use Rattle.layout_params.specs.declared.cell.Cell.{Cell}
 use Rattle.layout_params.specs.declared.cell.Cell.TheVariants.{Descr, Chars}
 use Rattle.sil_macros.specs.declared.shapes.Kind.{Kind}
@@ -12,7 +11,8 @@ use Rattle.sil_operands.specs.declared.operand.Operand.TheVariants.{Null, Expr, 
 use Rattle.layout_params.specs.Parameters.{Parameters}
 use Rattle.sil_operands.specs.Simple.{named_alone}
 use Rattle.sil_symbols.specs.declared.stmt.Stmt.{Stmt}
-use Rattle.sil_symbols.specs.Symbols.{value_of}
+use Rattle.sil_shapes.specs.Rules.{Measure, measure_of, flags_of, format_at, location_of}
+use Rattle.data_asm.specs.Fields.{first_text}
 use Rattle.syntax_tables.specs.declared.saying.Said.{Said}
 use Rattle.syntax_tables.specs.Files.{names_in, table_named}
 use Rattle.sil_base.specs.Names.{is_word}
@@ -20,7 +20,7 @@ use Rattle.sil_base.specs.declared.places.TheConstants.{FIRST_CELL}
 use Rattle.sil_model.specs.declared.program.Arg.{Arg}
 use Rattle.sil_model.specs.declared.program.Arg.TheVariants as arg
 use Rattle.sil_model.specs.declared.table.Action.{Action}
-use Rattle.sil_model.specs.declared.table.Action.TheVariants.{Contin, Goto, Stop, Stopsh, Error}
+use Rattle.sil_model.specs.declared.table.Action.TheVariants.{Contin, Stop, Stopsh, Error}
 
 -- an operand that is null or missing: the next statement, no locations, or none
 abbrev pub null_arg : Kind → Arg
@@ -28,14 +28,19 @@ null_arg kind.Goto = arg.Goto None
 null_arg kind.Gotos = arg.Gotos []
 null_arg _ = arg.Absent
 
--- what the names of operands stand for: the values of expressions, and the numbers of tables
+-- what the names of operands stand for: what expressions are measured by, the texts of FORMAT statements by their places, and the numbers of tables
 pub record Scope : Type 0 where
-  pub values : List Term → Option ℤ
+  pub measure : Measure
+  pub texts : ℕ → Option (List ℕ)
   pub tables : List ℕ → Option ℕ
+
+-- the text of the statement at a place
+abbrev pub text_at : List Stmt → ℕ → Option (List ℕ)
+text_at source place = option_map (λ s. first_text s.operands) (slice_get source place)
 
 -- that of a source with its parameters, and of the lines of a tables file
 abbrev pub scope_of : Parameters → List Stmt → List Said → Scope
-scope_of p source lines = record { values = value_of p source; tables = table_named (names_in lines) }
+scope_of p source lines = record { measure = measure_of p source; texts = text_at source; tables = table_named (names_in lines) }
 
 -- the action that a key names; none is GOTO
 abbrev pub action_named : List ℕ → Option Action
@@ -46,27 +51,60 @@ action_named name =
     else if is_word name (codes "ERROR") then Some Error
     else None
 
--- an expression in a place of this kind: locations, formats, flags and lists aren't installed so far
-abbrev pub arg_by : Scope → Kind → List Term → Option Arg
-arg_by scope kind.Descr terms = option_map arg.Place (scope.values terms)
-arg_by scope kind.Spec terms = option_map arg.Place (scope.values terms)
-arg_by scope kind.Number terms = option_map arg.Number (scope.values terms)
-arg_by scope kind.Table terms = option_map arg.Table (option_and_then scope.tables (named_alone terms))
-arg_by scope kind.Key terms = option_map arg.Key (option_and_then action_named (named_alone terms))
-arg_by scope _ terms = None
-
--- an operand in this place
-abbrev pub arg_of : Scope → Place → Operand → Option Arg
-arg_of scope place Null = if place.optional then Some (null_arg place.kind) else None
-arg_of scope place (Expr terms) = arg_by scope place.kind terms
-arg_of scope place (Listed items) = None
-arg_of scope place (Text text) = None
-
 -- a first thing before others, where all are there
 abbrev pub and_before : {A : Type 0} → Option A → Option (List A) → Option (List A)
 and_before None rest = None
 and_before (Some first) None = None
 and_before (Some first) (Some rest) = Some (first ∷ rest)
+
+-- the places of a list, where each item has a value
+abbrev pub place_in : Measure → Option (List Term) → Option ℤ
+place_in m None = None
+place_in m (Some terms) = m.values terms
+
+abbrev pub places_in : Measure → List (Option (List Term)) → Option (List ℤ)
+places_in m [] = Some []
+places_in m (item ∷ items) = and_before (place_in m item) (places_in m items)
+
+-- the locations of a list: an item that is nothing is the next statement
+abbrev pub location_in : Measure → Option (List Term) → Option (Option ℕ)
+location_in m None = Some None
+location_in m (Some terms) = option_map (λ k. Some k) (location_of m terms)
+
+abbrev pub locations_in : Measure → List (Option (List Term)) → Option (List (Option ℕ))
+locations_in m [] = Some []
+locations_in m (item ∷ items) = and_before (location_in m item) (locations_in m items)
+
+-- an expression in a place of this kind: in that of a list it stands for a list of one item
+abbrev pub arg_by : Scope → Kind → List Term → Option Arg
+arg_by scope kind.Descr terms = option_map arg.Place (scope.measure.values terms)
+arg_by scope kind.Spec terms = option_map arg.Place (scope.measure.values terms)
+arg_by scope kind.Number terms = option_map arg.Number (scope.measure.values terms)
+arg_by scope kind.Flag terms = option_map arg.Flag (flags_of scope.measure terms)
+arg_by scope kind.Goto terms = option_map (λ k. arg.Goto (Some k)) (location_of scope.measure terms)
+arg_by scope kind.Required terms = option_map (λ k. arg.Goto (Some k)) (location_of scope.measure terms)
+arg_by scope kind.Table terms = option_map arg.Table (option_and_then scope.tables (named_alone terms))
+arg_by scope kind.Key terms = option_map arg.Key (option_and_then action_named (named_alone terms))
+arg_by scope kind.Text terms = None
+arg_by scope kind.Format terms = option_map arg.Format (option_and_then scope.texts (format_at scope.measure terms))
+arg_by scope kind.Descrs terms = option_map (λ at. arg.Places (at ∷ [])) (scope.measure.values terms)
+arg_by scope kind.Specs terms = option_map (λ at. arg.Places (at ∷ [])) (scope.measure.values terms)
+arg_by scope kind.Gotos terms = option_map (λ k. arg.Gotos (Some k ∷ [])) (location_of scope.measure terms)
+arg_by scope kind.Free terms = Some arg.Absent
+
+-- a list in a place of this kind
+abbrev pub list_arg : Scope → Kind → List (Option (List Term)) → Option Arg
+list_arg scope kind.Descrs items = option_map arg.Places (places_in scope.measure items)
+list_arg scope kind.Specs items = option_map arg.Places (places_in scope.measure items)
+list_arg scope kind.Gotos items = option_map arg.Gotos (locations_in scope.measure items)
+list_arg scope _ items = None
+
+-- an operand in this place
+abbrev pub arg_of : Scope → Place → Operand → Option Arg
+arg_of scope place Null = if place.optional then Some (null_arg place.kind) else None
+arg_of scope place (Expr terms) = arg_by scope place.kind terms
+arg_of scope place (Listed items) = list_arg scope place.kind items
+arg_of scope place (Text text) = None
 
 -- a missing operand is null
 abbrev pub first_of : List Operand → Operand
@@ -81,14 +119,6 @@ rest_of (operand ∷ operands) = operands
 abbrev pub args_of : Scope → List Place → List Operand → Option (List Arg)
 args_of scope [] operands = Some []
 args_of scope (place ∷ places) operands = and_before (arg_of scope place (first_of operands)) (args_of scope places (rest_of operands))
-
--- a place or a number has 64 bits with its sign, a table is one of so many, and a key goes to none
-abbrev pub FitsArg : ℕ → Arg → Type 0
-FitsArg count (arg.Place at) = FitsSigned w64 at
-FitsArg count (arg.Number n) = FitsSigned w64 n
-FitsArg count (arg.Table t) = t < count
-FitsArg count (arg.Key (Goto next)) = ⊥
-FitsArg count _ = Unit {0}
 
 -- ---- places that are installed so far
 

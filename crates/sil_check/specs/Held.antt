@@ -1,25 +1,27 @@
 -- What the code answers on the way.
-use Rattle.std.specs.Prelude.{◌≡◌, ℕ, ◌≤◌, List, length, All, Option, Some, None, true}
+use Rattle.std.specs.Prelude.{◌≡◌, ℕ, ◌≤◌, List, [], length, All, Option, Some, None, true}
 use Rattle.std.specs.List.{list_all}
 use Rattle.layout_params.specs.declared.cell.Cell.{Cell}
 use Rattle.layout_params.specs.Parameters.{Parameters, AreLegal}
 use Rattle.layout_params.specs.Sizes.{packed_16}
+use Rattle.sil_operands.specs.Limits.{are_within_limits}
 use Rattle.sil_symbols.specs.declared.stmt.Stmt.{Stmt}
 use Rattle.sil_symbols.specs.Symbols.{extent, IsWithinLimits}
+use Rattle.sil_shapes.specs.Held.{IsResolution}
 use Rattle.sil_model.specs.declared.program.Program.{Program}
 use Rattle.sil_model.specs.declared.program.Specials.{Specials}
-use Rattle.sil_model.specs.declared.program.Statement.{Statement}
 use Rattle.sil_model.specs.Memory.{FitsCell}
 use Rattle.sil_model.specs.Start.{limits_of}
 use Rattle.sil_model.specs.WellFormed.{FitsOption, IsTable}
 use Rattle.syntax_tables.specs.declared.saying.Said.{Said}
+use Rattle.syntax_tables.specs.Files.{names_in}
 use Rattle.sil_base.specs.declared.limits.TheConstants.{MAX_TABLES}
-use Rattle.sil_symbols.specs.Resolved.{Resolves}
 use Rattle.sil_check.specs.declared.bound.BoundSource.{BoundSource}
 use Rattle.sil_check.specs.declared.stop.CheckStop.{CheckStop}
 use Rattle.sil_check.specs.declared.stop.CheckStop.TheVariants as stop
-use Rattle.sil_check.specs.Arguments.{FitsArg, Scope, scope_of}
+use Rattle.sil_check.specs.Arguments.{Scope, scope_of}
 use Rattle.sil_check.specs.Programs.{program_over, is_static_program}
+use Rattle.sil_check.specs.Specials.{special_faults}
 use Rattle.sil_check.specs.Verdicts.{is_built_statement}
 
 -- a stop where this is made, if anything is: want of memory, or nothing is made
@@ -29,18 +31,18 @@ IsUnmade made stop.NotBuilt = made ≡ None
 IsUnmade made stop.Memory = Unit {0}
 
 -- the symbols are those of the source
-abbrev pub IsResolved : BoundSource → Type 0
-IsResolved source = Resolves source.params.now source.statements.now source.symbols.now
+abbrev pub IsBound : BoundSource → Type 0
+IsBound bound = IsResolution bound.source
 
 -- what its names stand for
 abbrev pub scope_in : BoundSource → Scope
-scope_in source = scope_of source.params.now source.statements.now source.tables.now
+scope_in bound = scope_of bound.source.params.now bound.source.statements.now bound.tables.now
 
--- each operand fits, where there are so many tables
-abbrev pub HasFitArgs : ℕ → Statement → Type 0
-HasFitArgs count s = All (FitsArg count) s.args
+-- each list that is an operand has at most 40 items
+abbrev pub HaveShortLists : List Stmt → Type 0
+HaveShortLists source = All (λ s. are_within_limits s.operands ≡ true) source
 
--- so has each place that is a special symbol
+-- each place that is a special symbol has 64 bits
 pub record HasFitPlaces (specials : Specials) : Type 0 where
   pub stype : FitsOption specials.stype
   pub first : FitsOption specials.first
@@ -51,9 +53,11 @@ pub record HasFitPlaces (specials : Specials) : Type 0 where
 pub record IsMadeOf (p : Parameters) (source : List Stmt) (lines : List Said) (cells : List Cell) (program : Program) : Type 0 where
   pub legal : AreLegal p
   pub standard : p.settings.sizes ≡ packed_16
+  pub built : list_all is_built_statement source ≡ true
+  pub needs : special_faults p source ≡ []
   pub cells_are : program.cells ≡ cells
-  pub args : All (HasFitArgs (length program.tables)) program.statements
   pub tables : All (IsTable (length program.tables)) program.tables
+  pub named : length program.tables ≡ length (names_in lines)
   pub table_count : length program.tables ≤ MAX_TABLES
   pub specials : HasFitPlaces program.specials
   pub made : program_over p source lines cells ≡ Some program
@@ -63,7 +67,7 @@ pub record IsMadeOf (p : Parameters) (source : List Stmt) (lines : List Said) (c
 pub record IsProgramOf (p : Parameters) (source : List Stmt) (program : Program) : Type 0 where
   pub lines : List Said
   pub made : IsMadeOf p source lines program.cells program
+  pub lists : HaveShortLists source
   pub limits : IsWithinLimits p source
-  pub built : list_all is_built_statement source ≡ true
   pub fit : All (FitsCell (limits_of p.settings)) program.cells
   pub count : length program.cells ≡ (extent p source).cells

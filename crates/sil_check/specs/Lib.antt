@@ -1,5 +1,4 @@
 pub mod Statements
-pub mod Shapes
 pub mod Standard
 pub mod Arguments
 pub mod Tables

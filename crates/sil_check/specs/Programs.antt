@@ -1,20 +1,21 @@
 -- The program of statements.
-use Rattle.std.specs.Prelude.{ℕ, List, [], ◌∷◌, length, Option, Some, option_map, if◌then◌else◌, Bool}
+use Rattle.std.specs.Prelude.{ℕ, List, [], ◌∷◌, Option, Some, option_map, if◌then◌else◌, Bool}
 use Rattle.std.specs.List.{list_all}
 use Rattle.layout_params.specs.declared.cell.Cell.{Cell}
 use Rattle.layout_params.specs.Parameters.{Parameters}
-use Rattle.layout_params.specs.Sizes.{value_limit}
 use Rattle.sil_macros.specs.Rows.{row}
 use Rattle.sil_symbols.specs.declared.stmt.Stmt.{Stmt}
-use Rattle.sil_symbols.specs.Symbols.{value_of, value_of_name}
+use Rattle.sil_symbols.specs.Parts.{part_of, is_format}
+use Rattle.sil_symbols.specs.Symbols.{value_of}
 use Rattle.syntax_tables.specs.declared.saying.Said.{Said}
 use Rattle.syntax_tables.specs.Tables.{tables_of}
+use Rattle.data_asm.specs.Fields.{first_text}
 use Rattle.data_asm.specs.Cells.{static_cells_of}
 use Rattle.sil_model.specs.declared.program.Arg.{Arg}
 use Rattle.sil_model.specs.declared.program.Program.{Program}
 use Rattle.sil_model.specs.declared.program.Statement.{Statement}
 use Rattle.sil_check.specs.Arguments.{Scope, scope_of, args_of, and_before, is_static}
-use Rattle.sil_check.specs.Specials.{specials_of}
+use Rattle.sil_check.specs.Specials.{specials_in}
 
 abbrev pub statement_with : Stmt → List Arg → Statement
 statement_with s args = record { card = s.card; name = s.name; args = args }
@@ -31,14 +32,19 @@ machine_statements scope (s ∷ statements) =
     then machine_statements scope statements
     else and_before (machine_statement scope s) (machine_statements scope statements)
 
+-- the texts of FORMAT statements, in order
+abbrev pub formats_of : List Stmt → List (List ℕ)
+formats_of [] = []
+formats_of (s ∷ source) = if is_format (part_of s.name) then first_text s.operands ∷ formats_of source else formats_of source
+
 -- the program of these executable statements and static cells, and of the lines of a tables file
 abbrev pub program_with : Parameters → List Stmt → List Said → List Cell → List Statement → Program
 program_with p source lines cells statements = record {
   statements = statements;
   cells = cells;
   tables = tables_of (value_of p source) lines;
-  formats = [];
-  specials = specials_of p.settings.sizes.descr (length statements) (value_limit p.settings.sizes) (value_of_name p source);
+  formats = formats_of source;
+  specials = specials_in p source;
 }
 
 abbrev pub program_over : Parameters → List Stmt → List Said → List Cell → Option Program

@@ -1,20 +1,14 @@
--- The special symbols.
-use Rattle.std.specs.Prelude.{ℕ, ◌-◌, ◌/◌, ◌%◌, nat_le, nat_lt, List, codes, Option, Some, None, option_and_then, ◌&&◌, ◌==◌, if◌then◌else◌, ℤ, pos, negsuc}
-use Rattle.sil_base.specs.declared.places.TheConstants.{FIRST_ENTRY}
+-- The special symbols, and the rule P1.
+use Rattle.std.specs.Prelude.{ℕ, List, codes, Option, Some, None, option_and_then, if◌then◌else◌, ℤ}
+use Rattle.layout_params.specs.Parameters.{Parameters}
+use Rattle.layout_params.specs.Sizes.{value_limit}
+use Rattle.sil_base.specs.declared.line.Fault.{Fault}
+use Rattle.sil_symbols.specs.declared.stmt.Stmt.{Stmt}
+use Rattle.sil_symbols.specs.Rules.{faults_from}
+use Rattle.sil_symbols.specs.Symbols.{value_of_name}
+use Rattle.sil_shapes.specs.Locations.{executable_count, statement_at, number_within}
 use Rattle.sil_model.specs.declared.program.Specials.{Specials}
-
--- the statement whose entry a number is, where there are so many statements and a descriptor has so many bytes
-abbrev pub statement_at : ℕ → ℕ → ℤ → Option ℕ
-statement_at size count (negsuc n) = None
-statement_at size count (pos n) =
-    if nat_le FIRST_ENTRY n && ((n - FIRST_ENTRY) % size == 0) && nat_lt ((n - FIRST_ENTRY) / size) count
-    then Some ((n - FIRST_ENTRY) / size)
-    else None
-
--- a number from 0 to a limit
-abbrev pub number_within : ℕ → ℤ → Option ℕ
-number_within limit (negsuc n) = None
-number_within limit (pos n) = if nat_le n limit then Some n else None
+use Rattle.sil_model.specs.Needs.{has_needed}
 
 -- the special symbols, where the values of names are given: none where a symbol is missing or unfit
 abbrev pub specials_of : ℕ → ℕ → ℕ → (List ℕ → Option ℤ) → Specials
@@ -27,3 +21,15 @@ specials_of size count limit values = record {
   tail = values (codes "TLSGP1");
   int_code = option_and_then (number_within limit) (values (codes "I"));
 }
+
+-- those of a source
+abbrev pub specials_in : Parameters → List Stmt → Specials
+specials_in p source = specials_of p.settings.sizes.descr (executable_count source) (value_limit p.settings.sizes) (value_of_name p source)
+
+-- P1: the macro needs a special symbol that is missing or unfit
+abbrev pub special_rule : Specials → ℕ → Stmt → Option ℕ
+special_rule specials place s = if has_needed specials s.name then None else Some 1
+
+-- the statements that break it; 80 is P
+unfoldable pub special_faults : Parameters → List Stmt → List Fault
+special_faults p source = faults_from 80 (special_rule (specials_in p source)) 0 source

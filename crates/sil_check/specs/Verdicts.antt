@@ -11,6 +11,7 @@ use Rattle.sil_macros.specs.Rows.{row}
 use Rattle.sil_cards.specs.CardParts.{CardParts}
 use Rattle.sil_symbols.specs.declared.stmt.Stmt.{Stmt}
 use Rattle.sil_symbols.specs.Rules.{faults_of}
+use Rattle.sil_shapes.specs.Rules.{statement_faults}
 use Rattle.data_asm.specs.Faults.{data_faults}
 use Rattle.sil_base.specs.declared.fault_stop.FaultStop.{FaultStop}
 use Rattle.sil_base.specs.declared.fault_stop.FaultStop.TheVariants as below
@@ -20,7 +21,7 @@ use Rattle.sil_model.specs.declared.program.Program.{Program}
 use Rattle.sil_model.specs.Built.{is_built}
 use Rattle.sil_check.specs.declared.stop.CheckStop.{CheckStop}
 use Rattle.sil_check.specs.declared.stop.CheckStop.TheVariants as stop
-use Rattle.sil_check.specs.Shapes.{fits}
+use Rattle.sil_check.specs.Specials.{special_faults}
 use Rattle.sil_check.specs.Standard.{is_standard}
 use Rattle.sil_check.specs.Statements.{statements_of}
 use Rattle.sil_check.specs.Tables.{table_faults}
@@ -35,9 +36,12 @@ is_assembled name = (row name).assembly
 abbrev pub is_built_macro : Macro → Bool
 is_built_macro name = is_assembled name || is_built name
 
--- a statement of such a macro and its shape
 abbrev pub is_built_statement : Stmt → Bool
-is_built_statement s = is_built_macro s.name && fits s.name s.operands
+is_built_statement s = is_built_macro s.name
+
+-- a source of such macros alone, for the layout that is installed so far
+abbrev pub is_built_source : Parameters → List Stmt → Bool
+is_built_source p source = list_all is_built_statement source && is_standard p.settings.sizes
 
 -- a stop of the crates below
 abbrev pub stop_below : FaultStop → CheckStop
@@ -64,18 +68,23 @@ abbrev pub with_lines : Result (List Said) FaultStop → (List Said → Result P
 with_lines (Ok lines) go = go lines
 with_lines (Err stop) go = Err (stop_below stop)
 
--- what is answered for a source and the lines of a tables file, where all before them is in order: faults of tables, then the program
+-- what is answered where there are no faults: the program, where it is built
+abbrev pub verdict_built : Parameters → List Stmt → List Said → Result Program CheckStop
+verdict_built p source lines =
+    if_built (is_built_source p source) (made p.settings.sizes.descr (program_of p source lines))
+
+-- what is answered for a source and the lines of a tables file, where all before them is in order: faults of tables, then of special symbols
 abbrev pub verdict_with : Parameters → List Stmt → List Said → Result Program CheckStop
 verdict_with p source lines =
     unless_faults (table_faults p source lines)
-    (if_built (is_standard p.settings.sizes)
-    (made p.settings.sizes.descr (program_of p source lines)))
+    (unless_faults (special_faults p source)
+    (verdict_built p source lines))
 
--- what is answered for a source and a tables file, without want of memory: faults of symbols, then of data, then of tables, then the program
+-- what is answered for a source and a tables file, without want of memory: faults of symbols, then of statements, then of data, then of tables
 abbrev pub verdict_of : Parameters → List Stmt → List ℕ → Result Program CheckStop
 verdict_of p source tables =
     unless_faults (faults_of p source)
-    (if_built (list_all is_built_statement source)
+    (unless_faults (statement_faults p source)
     (unless_faults (data_faults p source)
     (with_lines (written_of tables) (verdict_with p source))))
 

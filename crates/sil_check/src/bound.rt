@@ -1,14 +1,11 @@
 // A source whose names are bound.
 
-use layout_params::Params;
-use sil_symbols::{Stmt, Symbols};
+use sil_shapes::Resolution;
 use syntax_tables::Written;
 
-/// The parameters, statements and symbols of a source, and its tables file.
+/// A source that was resolved, and its tables file.
 #[derive(Clone, Copy)]
 pub(crate) struct BoundSource<'a> {
-    pub params: &'a Params,
-    pub statements: &'a [Stmt],
-    pub symbols: &'a Symbols,
+    pub source: Resolution<'a>,
     pub tables: &'a Written,
 }

@@ -3,9 +3,9 @@
 
 mod arguments;
 mod bound;
+mod lists;
 mod places;
 mod program;
-mod shapes;
 mod source;
 mod specials;
 mod standard;
@@ -13,6 +13,6 @@ mod statements;
 mod stop;
 mod tables;
 
-pub use shapes::fits;
+pub use sil_shapes::fits;
 pub use source::check;
 pub use stop::CheckStop;

@@ -1,30 +1,38 @@
 // From the cards of a source to its program.
-ghost use Rattle.std.specs.Prelude.{◌≡◌, ◌≤◌, length, Ok, IfOk, MatchResult};
+ghost use Rattle.std.specs.Prelude.{◌≡◌, ◌≤◌, [], length, true, All, Ok, IfOk, IfErr, OnOk, MatchResult};
 ghost use Rattle.std.specs.List.{list_all};
+ghost use Rattle.layout_params.specs.Parameters.{AreLegal};
 ghost use Rattle.layout_params.specs.Sizes.{packed_16};
+ghost use Rattle.sil_base.specs.Faults.{IsStopFor as IsFaultStopFor};
 ghost use Rattle.sil_cards.specs.Cards.{AreCards};
 ghost use Rattle.sil_model.specs.Built.{AreBuilt};
-ghost use Rattle.sil_model.specs.WellFormed.{IsWellFormed};
+ghost use Rattle.sil_model.specs.WellFormed.{IsTable, IsWellFormed};
 ghost use Rattle.data_asm.specs.Cells.{static_cells_of};
 ghost use Rattle.sil_symbols.specs.Rules.{EndsOnce};
-ghost use Rattle.sil_check.specs.Held.{IsMadeOf, IsProgramOf, IsResolved};
-ghost use Rattle.sil_check.specs.Verdicts.{is_assembled, is_built_statement, verdict_with, verdict_of, verdict, IsStopFor};
+ghost use Rattle.sil_symbols.specs.Symbols.{value_of};
+ghost use Rattle.syntax_tables.specs.Files.{names_in};
+ghost use Rattle.syntax_tables.specs.Tables.{tables_of};
+ghost use Rattle.sil_check.specs.Held.{HaveShortLists, IsBound, IsMadeOf, IsProgramOf};
+ghost use Rattle.sil_check.specs.Specials.{special_faults};
+ghost use Rattle.sil_check.specs.Verdicts.{is_assembled, is_built_source, is_built_statement, unless_faults, verdict_built, verdict_with, verdict_of, verdict, IsStopFor};
 
 use crate::bound::BoundSource;
 use crate::places::is_static_program;
 use crate::program::program_over;
-use crate::shapes::fits;
+use crate::specials::{special_faults, specials_of};
 use crate::standard::is_standard;
 use crate::statements::statements_of;
 use crate::stop::CheckStop;
 use crate::tables::tables_of;
 use data_asm::assemble;
 use layout_params::{Cell, Params};
-use sil_base::{MAX_CARDS, MAX_FILE_BYTES};
+use sil_base::{Fault, FaultStop, Items, MAX_CARDS, MAX_FILE_BYTES, MAX_TABLES};
 use sil_cards::Card;
 use sil_macros::{Macro, is_assembly};
-use sil_model::{Program, is_built};
-use sil_symbols::{Stmt, resolve};
+use sil_model::{Program, Table, is_built};
+use sil_operands::what_is_read_is_spelled;
+use sil_shapes::{Resolution, statement_faults};
+use sil_symbols::{Stmt, law_of_values, resolve};
 use std::alloc::Global;
 use syntax_tables::read_tables;
 
@@ -41,8 +49,7 @@ fn is_assembled(name: Macro) -> bool
 fn is_built_statement(statement: &Stmt) -> bool
     ensures { result ≡ is_built_statement statement.now }
 {
-    let name = statement.name;
-    (is_assembled(name) || is_built(name)) && fits(name, &statement.operands)
+    is_assembled(statement.name) || is_built(statement.name)
 }
 
 fn are_built(statements: &[Stmt]) -> bool
@@ -53,29 +60,98 @@ fn are_built(statements: &[Stmt]) -> bool
         .all(|statement| is_built_statement(statement))
 }
 
-/// The program of a source whose symbols and data are in order, over its static cells, or why there
-/// is none.
-fn check_tables(
-    alloc: Global,
-    source: &BoundSource<'_>,
-    cells: Vec<Cell>,
-) -> Result<Program, CheckStop>
-    requires few { length source.now.statements.now ≤ MAX_CARDS }
-    requires resolved { IsResolved source.now }
-    requires cells { cells.items ≡ static_cells_of source.now.params.now source.now.statements.now }
-    ensures verdict { let answer = verdict_with source.now.params.now source.now.statements.now source.now.tables.now
-        in MatchResult result (λ p. answer ≡ Ok p) (IsStopFor answer) }
-    ensures made { IfOk result (IsMadeOf source.now.params.now source.now.statements.now source.now.tables.now cells.items) }
+/// Whether all statements are of such macros, and the layout is the one that is installed so far.
+fn is_built_source(params: &Params, statements: &[Stmt]) -> bool
+    ensures tested { result ≡ is_built_source params.now statements.now }
+    ensures legal { AreLegal params.now }
+    ensures sizes { result ≡ true → params.now.settings.sizes ≡ packed_16 }
+    ensures built { result ≡ true → list_all is_built_statement statements.now ≡ true }
 {
-    let tables = tables_of(alloc, source)?;
-    if !is_standard(source.params) {
+    let standard = is_standard(params);
+    are_built(statements) && standard
+}
+
+/// Whether there are none of these faults.
+fn faultless(faults: Vec<Fault>) -> Result<(), FaultStop>
+    ensures none { OnOk result (faults.items ≡ []) }
+    ensures faults { IfErr result (IsFaultStopFor faults.items) }
+{
+    if faults.is_empty() {
+        Ok(())
+    } else {
+        Err(FaultStop::Faults(Items::of(faults)))
+    }
+}
+
+/// The program of a source without faults, over its static cells and with its tables and special
+/// symbols, or why there is none.
+fn make_program(
+    alloc: Global,
+    bound: &BoundSource<'_>,
+    cells: Vec<Cell>,
+    tables: Vec<Table>,
+) -> Result<Program, CheckStop>
+    requires bound { IsBound bound.now }
+    requires needs { special_faults bound.now.source.params.now bound.now.source.statements.now ≡ [] }
+    requires cells { cells.items ≡ static_cells_of bound.now.source.params.now bound.now.source.statements.now }
+    requires tables { tables.items ≡ tables_of (value_of bound.now.source.params.now bound.now.source.statements.now) bound.now.tables.now }
+    requires good { All (IsTable (length tables.items)) tables.items }
+    requires count { length tables.items ≡ length (names_in bound.now.tables.now) }
+    requires few { length tables.items ≤ MAX_TABLES }
+    ensures verdict { let answer = verdict_built bound.now.source.params.now bound.now.source.statements.now bound.now.tables.now
+        in MatchResult result (λ p. answer ≡ Ok p) (IsStopFor answer) }
+    ensures made { IfOk result (IsMadeOf bound.now.source.params.now bound.now.source.statements.now bound.now.tables.now cells.items) }
+{
+    let params = bound.source.params;
+    if !is_built_source(params, bound.source.statements) {
         return Err(CheckStop::NotBuilt);
     }
-    let program = program_over(alloc, source, cells, tables)?;
-    if !is_static_program(source.params, &program) {
+    let specials = specials_of(&bound.source);
+    let program = program_over(alloc, bound, cells, tables, specials)?;
+    if !is_static_program(params, &program) {
         return Err(CheckStop::NotBuilt);
     }
     Ok(program)
+}
+
+/// The program of a source with these tables, or why there is none.
+fn check_specials(
+    alloc: Global,
+    bound: &BoundSource<'_>,
+    cells: Vec<Cell>,
+    tables: Vec<Table>,
+) -> Result<Program, CheckStop>
+    requires bound { IsBound bound.now }
+    requires cells { cells.items ≡ static_cells_of bound.now.source.params.now bound.now.source.statements.now }
+    requires tables { tables.items ≡ tables_of (value_of bound.now.source.params.now bound.now.source.statements.now) bound.now.tables.now }
+    requires good { All (IsTable (length tables.items)) tables.items }
+    requires count { length tables.items ≡ length (names_in bound.now.tables.now) }
+    requires few { length tables.items ≤ MAX_TABLES }
+    ensures verdict { let answer = unless_faults (special_faults bound.now.source.params.now bound.now.source.statements.now)
+        (verdict_built bound.now.source.params.now bound.now.source.statements.now bound.now.tables.now)
+        in MatchResult result (λ p. answer ≡ Ok p) (IsStopFor answer) }
+    ensures made { IfOk result (IsMadeOf bound.now.source.params.now bound.now.source.statements.now bound.now.tables.now cells.items) }
+{
+    let specials = specials_of(&bound.source);
+    faultless(special_faults(alloc, &bound.source, &specials)?)?;
+    make_program(alloc, bound, cells, tables)
+}
+
+/// The program of a source whose symbols, statements and data are in order, over its static cells,
+/// or why there is none.
+fn check_tables(
+    alloc: Global,
+    bound: &BoundSource<'_>,
+    cells: Vec<Cell>,
+) -> Result<Program, CheckStop>
+    requires bound { IsBound bound.now }
+    requires cells { cells.items ≡ static_cells_of bound.now.source.params.now bound.now.source.statements.now }
+    ensures verdict { let answer = verdict_with bound.now.source.params.now bound.now.source.statements.now bound.now.tables.now
+        in MatchResult result (λ p. answer ≡ Ok p) (IsStopFor answer) }
+    ensures made { IfOk result (IsMadeOf bound.now.source.params.now bound.now.source.statements.now bound.now.tables.now cells.items) }
+{
+    let tables = tables_of(alloc, bound)?;
+    check_specials(alloc, bound, cells, tables)
 }
 
 /// The program of the statements of a source, or why there is none.
@@ -88,31 +164,29 @@ fn check_statements(
     requires few { length statements.now ≤ MAX_CARDS }
     requires short { length tables.now ≤ MAX_FILE_BYTES }
     requires ended { EndsOnce statements.now }
+    requires lists { HaveShortLists statements.now }
     ensures verdict { let answer = verdict_of params.now statements.now tables.now
         in MatchResult result (λ p. answer ≡ Ok p) (IsStopFor answer) }
     ensures made { IfOk result (IsProgramOf params.now statements.now) }
 {
     let symbols = resolve(alloc, statements, params)?;
-    if !are_built(statements) {
-        return Err(CheckStop::NotBuilt);
-    }
+    let source = Resolution::of(params, statements, &symbols);
+    faultless(statement_faults(alloc, &source)?)?;
     let cells = assemble(alloc, statements, &symbols, params)?;
     let written = read_tables(alloc, tables)?;
-    let source = BoundSource {
-        params,
-        statements,
-        symbols: &symbols,
+    let bound = BoundSource {
+        source,
         tables: &written,
     };
-    check_tables(alloc, &source, cells)
+    check_tables(alloc, &bound, cells)
 }
 
 /// The program of cards that were read, or why there is none. Faults of lines come first, those of
-/// names (N), then those of values (V), and after the shapes of statements those of data (A), and
-/// of tables (T): the operands that name none, and the lines of the tables file. A source is not
-/// built so far where a statement is a FORMAT, has operands that don't fit its macro or is neither
-/// of the assembly nor of a macro that is installed so far; in another layout than the standard one;
-/// and where a place that is an operand isn't that of a descriptor of a data statement.
+/// names (N), then those of values (V), of statements (S), of data (A), of tables (T), which are the
+/// operands that name none and the lines of the tables file, and of special symbols (P). A source
+/// is not built so far where a statement is a FORMAT, or is neither of the assembly nor of a macro
+/// that is installed so far; in another layout than the standard one; and where a place that is an
+/// operand isn't that of a descriptor of a data statement.
 pub fn check(
     alloc: Global,
     cards: Vec<Card>,
@@ -128,6 +202,8 @@ pub fn check(
     ensures standard { IfOk result (λ p. params.now.settings.sizes ≡ packed_16) }
     ensures built { IfOk result (AreBuilt params.now.settings.sizes.descr) }
 {
+    what_is_read_is_spelled();
+    law_of_values();
     let statements = statements_of(alloc, cards)?;
     check_statements(alloc, &statements, tables, params)
 }

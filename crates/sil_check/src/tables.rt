@@ -6,7 +6,7 @@ ghost use Rattle.sil_symbols.specs.Symbols.{value_of};
 ghost use Rattle.syntax_tables.specs.Files.{names_in, table_named};
 ghost use Rattle.syntax_tables.specs.Tables.{tables_of};
 ghost use Rattle.sil_check.specs.Arguments.{first_of};
-ghost use Rattle.sil_check.specs.Held.{IsResolved};
+ghost use Rattle.sil_check.specs.Held.{IsBound};
 ghost use Rattle.sil_check.specs.Tables.{is_astray, goes_astray, table_rule, operand_faults, table_faults};
 
 use crate::arguments::rest_of;
@@ -83,17 +83,17 @@ fn operand_faults(
 }
 
 /// The tables of a source, or the faults of its operands and of its tables file.
-pub(crate) fn tables_of(alloc: Global, source: &BoundSource<'_>) -> Result<Vec<Table>, FaultStop>
-    requires { IsResolved source.now }
-    ensures faultless { OnOk result (table_faults source.now.params.now source.now.statements.now source.now.tables.now ≡ []) }
-    ensures tables { IfOk result (λ v. v.items ≡ tables_of (value_of source.now.params.now source.now.statements.now) source.now.tables.now) }
+pub(crate) fn tables_of(alloc: Global, bound: &BoundSource<'_>) -> Result<Vec<Table>, FaultStop>
+    requires { IsBound bound.now }
+    ensures faultless { OnOk result (table_faults bound.now.source.params.now bound.now.source.statements.now bound.now.tables.now ≡ []) }
+    ensures tables { IfOk result (λ v. v.items ≡ tables_of (value_of bound.now.source.params.now bound.now.source.statements.now) bound.now.tables.now) }
     ensures good { IfOk result (λ v. All (IsTable (length v.items)) v.items) }
-    ensures count { IfOk result (λ v. length v.items ≡ length (names_in source.now.tables.now)) }
+    ensures count { IfOk result (λ v. length v.items ≡ length (names_in bound.now.tables.now)) }
     ensures few { IfOk result (λ v. length v.items ≤ MAX_TABLES) }
-    ensures faults { IfErr result (IsStopFor (table_faults source.now.params.now source.now.statements.now source.now.tables.now)) }
+    ensures faults { IfErr result (IsStopFor (table_faults bound.now.source.params.now bound.now.source.statements.now bound.now.tables.now)) }
 {
-    let mut faults = operand_faults(alloc, source.tables, source.statements)?;
-    match bind(alloc, source.tables, source.symbols) {
+    let mut faults = operand_faults(alloc, bound.tables, bound.source.statements)?;
+    match bind(alloc, bound.tables, bound.source.symbols) {
         Ok(tables) => {
             if faults.is_empty() {
                 Ok(tables)

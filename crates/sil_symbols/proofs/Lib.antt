@@ -6,3 +6,4 @@ pub mod Agreement
 pub mod Rounds
 pub mod RuleLemmas
 pub mod SymbolLemmas
+pub mod AddressLemmas

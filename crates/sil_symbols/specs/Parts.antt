@@ -43,3 +43,16 @@ takes_size _ = false
 abbrev pub is_format : Part → Bool
 is_format Format = true
 is_format _ = false
+
+-- a data statement, and an executable one
+abbrev pub is_data : Part → Bool
+is_data (Descriptors n) = true
+is_data Array = true
+is_data Buffer = true
+is_data String = true
+is_data Format = true
+is_data _ = false
+
+abbrev pub is_executable : Part → Bool
+is_executable Executable = true
+is_executable _ = false

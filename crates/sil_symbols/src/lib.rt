@@ -16,6 +16,6 @@ mod settling;
 mod stmt;
 mod symbols;
 
-pub use laws::{law_of_sizes, law_of_values};
+pub use laws::{law_of_addresses, law_of_sizes, law_of_values};
 pub use stmt::Stmt;
 pub use symbols::{SymbolStop, Symbols, resolve};

@@ -1,15 +1,10 @@
-use Rattle.std.proofs.Common.{◌≡◌, drop, length}
-use Rattle.std.specs.Prelude.{All}
-use Rattle.syntax_tables.specs.Files.{names_in}
+use Rattle.std.proofs.Common.{◌≡◌, drop}
 use Rattle.sil_check.specs.Held.{scope_in}
-use Rattle.sil_check.specs.Arguments.{args_of, FitsArg}
+use Rattle.sil_check.specs.Arguments.{args_of}
 use Rattle.sil_check.proofs.Made.{after}
 use Rattle.sil_check.proofs.arguments.args_of.Given as goal
 
 abbrev pub invariant-loop-place : goal.invariant-loop-place
 invariant-loop-place l =
-    let scope = scope_in l.source in
-    record {
-      args : args_of scope l.places l.initial.rest ≡ after l.args.items (args_of scope (drop l.place-index l.places) l.rest);
-      fit : All (FitsArg (length (names_in l.source.tables.now))) l.args.items;
-    }
+    let scope = scope_in l.bound in
+    args_of scope l.places l.initial.rest ≡ after l.args.items (args_of scope (drop l.place-index l.places) l.rest)

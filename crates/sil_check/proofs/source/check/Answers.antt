@@ -3,7 +3,8 @@ use Rattle.std.proofs.Common.{subst, sym, ◌∙◌}
 use Rattle.std.proofs.lemmas.Result.{IfOk-weaker}
 use Rattle.sil_symbols.specs.Rules.{EndsOnce}
 use Rattle.sil_check.specs.Statements.{statements_of}
-use Rattle.sil_check.proofs.CardLemmas.{ended}
+use Rattle.sil_check.specs.Held.{HaveShortLists}
+use Rattle.sil_check.proofs.CardLemmas.{ended, short_lists}
 use Rattle.sil_check.proofs.ProgramLemmas.{checked}
 use Rattle.sil_check.proofs.source.check.Goals as goal
 
@@ -14,8 +15,11 @@ same c = c.deref.ensures.value ∙ c.in_ok-statements.ensures
 pub check_statements-requires-clause-ended : goal.check_statements-requires-clause-ended
 check_statements-requires-clause-ended c = subst EndsOnce (sym (same c)) (ended c.args.cards.items c.requires.good.good c.requires.good.ends)
 
+pub check_statements-requires-clause-lists : goal.check_statements-requires-clause-lists
+check_statements-requires-clause-lists c = subst HaveShortLists (sym (same c)) (short_lists c.what_is_read_is_spelled.ensures c.args.cards.items)
+
 pub returns-clause-well_formed : goal.returns-clause-well_formed
-returns-clause-well_formed c = IfOk-weaker c.check_statements.result _ _ (λ p h. (checked c.args.params.now c.deref.result.now p h).well_formed) c.check_statements.ensures.made
+returns-clause-well_formed c = IfOk-weaker c.check_statements.result _ _ (λ p h. (checked c.law_of_values.ensures c.args.params.now c.deref.result.now p h).well_formed) c.check_statements.ensures.made
 
 pub returns-clause-built : goal.returns-clause-built
-returns-clause-built c = IfOk-weaker c.check_statements.result _ _ (λ p h. (checked c.args.params.now c.deref.result.now p h).built) c.check_statements.ensures.made
+returns-clause-built c = IfOk-weaker c.check_statements.result _ _ (λ p h. (checked c.law_of_values.ensures c.args.params.now c.deref.result.now p h).built) c.check_statements.ensures.made

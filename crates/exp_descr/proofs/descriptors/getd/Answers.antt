@@ -1,0 +1,32 @@
+use Rattle.std.proofs.Common.{lit≤, refl}
+use Rattle.std.proofs.lemmas.Int.{to_z-of_z}
+use Rattle.layout_params.specs.declared.cell.Cell.TheVariants.{Descr}
+use Rattle.sil_model.specs.Access.{put_cell}
+use Rattle.sil_model.specs.DescriptorClauses.{getd}
+use Rattle.sil_model.specs.Integers.{◌⊞◌}
+use Rattle.sil_micro.proofs.Making.{by_option}
+use Rattle.exp_descr.proofs.Questions.{by_read}
+use Rattle.exp_descr.proofs.descriptors.getd.Goals as goal
+use mir.Val.{SFits}
+use mir.Syntax.{w64}
+
+pub returns : goal.returns
+unfolding getd
+returns c =
+    let f_d1 : SFits w64 c.args.d1 = c.ranges.d1 in
+    let f_d2 : SFits w64 c.args.d2 = c.ranges.d2 in
+    let f_d3 : SFits w64 c.args.d3 = c.ranges.d3 in
+    let stands = simp (to_z-of_z, c.begin_statement.ensures) at c.in_ok-append.ensures.appends in
+    record {
+      piece = _;
+      stands = stands;
+      is_piece = record { part = refl; begins = refl; once = refl; names = refl; light = lit≤ tt };
+      does = λ g program parameters u h.
+          let m = u.state.memory in
+          let valid = h.valid.memory in
+          by_read m c.args.d2 valid (λ none. record { fuel = 12; meets = simp (h.left, none) (refl, refl, lit≤ tt) }) (λ a2 f2 v2 is2 read2.
+          by_read m c.args.d3 valid (λ none. record { fuel = 12; meets = simp (h.left, is2, none) (refl, refl, lit≤ tt) }) (λ a3 f3 v3 is3 read3.
+          by_read m (a2 ⊞ a3) valid (λ none. record { fuel = 12; meets = simp (h.left, is2, is3, none) (refl, refl, lit≤ tt) }) (λ a f v is read.
+          by_option (put_cell m c.args.d1 (Descr (record { a = a; f = f; v = v }))) (λ none. record { fuel = 12; meets = simp (h.left, is2, is3, is, read.f_again, read.v_again, none) (refl, refl, lit≤ tt) }) (λ cells put.
+          record { fuel = 12; meets = simp (h.left, is2, is3, is, read.f_again, read.v_again, put) (refl, lit≤ tt) }))));
+    }

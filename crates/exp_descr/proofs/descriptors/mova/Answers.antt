@@ -1,0 +1,27 @@
+use Rattle.std.proofs.Common.{lit≤, refl}
+use Rattle.std.proofs.lemmas.Int.{to_z-of_z}
+use Rattle.sil_model.specs.Access.{set_a_at}
+use Rattle.sil_model.specs.DescriptorClauses.{mova}
+use Rattle.sil_micro.proofs.Making.{by_option}
+use Rattle.exp_descr.proofs.Questions.{by_read}
+use Rattle.exp_descr.proofs.descriptors.mova.Goals as goal
+use mir.Val.{SFits}
+use mir.Syntax.{w64}
+
+pub returns : goal.returns
+unfolding mova
+returns c =
+    let f_d1 : SFits w64 c.args.d1 = c.ranges.d1 in
+    let f_d2 : SFits w64 c.args.d2 = c.ranges.d2 in
+    let stands = simp (to_z-of_z, c.begin_statement.ensures) at c.in_ok-append.ensures.appends in
+    record {
+      piece = _;
+      stands = stands;
+      is_piece = record { part = refl; begins = refl; once = refl; names = refl; light = lit≤ tt };
+      does = λ g program parameters u h.
+          let m = u.state.memory in
+          let valid = h.valid.memory in
+          by_read m c.args.d2 valid (λ none. record { fuel = 6; meets = simp (h.left, none) (refl, refl, lit≤ tt) }) (λ a f v is read.
+          by_option (set_a_at m c.args.d1 a) (λ none. record { fuel = 6; meets = simp (h.left, is, none) (refl, refl, lit≤ tt) }) (λ after set.
+          record { fuel = 6; meets = simp (h.left, is, set) (refl, lit≤ tt) }));
+    }
