@@ -17,3 +17,5 @@ pub mod ScratchOps
 pub mod StateOps
 pub mod OpRules
 pub mod OpWords
+pub mod Switching
+pub mod EntryOps

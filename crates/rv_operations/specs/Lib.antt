@@ -9,3 +9,4 @@ pub mod Sites
 pub mod Does
 pub mod Laws
 pub mod WordLaws
+pub mod Switch

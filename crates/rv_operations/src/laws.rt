@@ -1,5 +1,6 @@
 // The laws of operations.
 ghost use Rattle.rv_operations.specs.WordLaws.{LawOfLoadBytes, LawOfLoadChar, LawOfLoadKind, LawOfLoadScratch, LawOfLoadState, LawOfStoreBytes, LawOfStoreChar, LawOfStoreKind, LawOfStoreScratch, LawOfStoreState};
+ghost use Rattle.rv_operations.specs.Switch.{LawOfJumpEntry, LawOfJumpReturn, LawOfSwitches};
 ghost use Rattle.rv_operations.specs.Laws.{LawOfArith, LawOfBegin, LawOfConst, LawOfCopy, LawOfEnd, LawOfJump, LawOfJumpIf, LawOfLengths, LawOfLoadField, LawOfOpWords, LawOfStoreCell, LawOfStoreField};
 
 /// The words of constants, copies and sums do what the operations do.
@@ -66,4 +67,12 @@ pub fn law_of_lengths()
 /// The instructions of operations have words.
 pub fn law_of_op_words()
     ensures { LawOfOpWords }
+{}
+
+/// The routine that jumps by an entry finds its statement, and the words of jumps by entries and to
+/// return parts do what the operations do.
+pub fn law_of_entries()
+    ensures switch { LawOfSwitches }
+    ensures jump { LawOfJumpEntry }
+    ensures back { LawOfJumpReturn }
 {}
