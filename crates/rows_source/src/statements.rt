@@ -100,7 +100,7 @@ fn faults_of(alloc: Global, source: &[u8], tables: &[u8]) -> Result<Vec<u8>, All
 }
 
 #[test]
-fn statements_break_rules(rt: HostRuntime) {
+fn statements_break_rules(rt: HostRuntime) -> Result<(), AllocError> {
     for rows in [
         SHAPES.as_slice(),
         LOCATIONS.as_slice(),
@@ -112,12 +112,14 @@ fn statements_break_rules(rt: HostRuntime) {
             assert_eq!(rt; faults.as_slice(), expected);
         }
     }
+    Ok(())
 }
 
 #[test]
-fn tables_come_before_special_symbols(rt: HostRuntime) {
+fn tables_come_before_special_symbols(rt: HostRuntime) -> Result<(), AllocError> {
     for &(source, tables, expected) in &TABLES {
         let faults = faults_of(rt.alloc(), source, tables)?;
         assert_eq!(rt; faults.as_slice(), expected);
     }
+    Ok(())
 }
