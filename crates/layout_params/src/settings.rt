@@ -1,7 +1,7 @@
 // The parameters that an image keeps.
 ghost use Rattle.std.specs.Prelude.{◌≡◌, ◌≤◌, ◌<◌, ◌^◌, [], ◌∷◌, MatchOption, IfSome};
 ghost use Rattle.layout_params.specs.Areas as areas;
-ghost use Rattle.layout_params.specs.Held.{drafted};
+ghost use Rattle.layout_params.specs.HeldEntries.{drafted};
 ghost use Rattle.layout_params.specs.Parameters as parameters;
 ghost use Rattle.layout_params.specs.Parameters.{AreLegalSettings, settings_numbers};
 

@@ -15,7 +15,7 @@ use Rattle.sil_operands.specs.declared.operand.Operand.{Operand}
 use Rattle.sil_operands.specs.declared.operand.Operand.TheVariants.{Null, Expr, List as Listed, Text}
 use Rattle.sil_operands.specs.Limits.{are_within_limits, card_limits, item_keeps, operand_keeps}
 use Rattle.sil_operands.specs.Simple.{named_alone}
-use Rattle.sil_shapes.specs.Rules.{flags_of, format_at, location_of}
+use Rattle.sil_shapes.specs.ShapeRules.{flags_of, format_at, location_of}
 use Rattle.sil_model.specs.declared.program.Arg.{Arg}
 use Rattle.sil_model.specs.declared.program.Arg.TheVariants as arg
 use Rattle.sil_model.specs.declared.table.Action.{Action}

@@ -3,10 +3,10 @@ use Rattle.std.proofs.Common.{◌≡◌, ℕ, ◌+◌, ◌<◌, suc, Bool, true,
 use Rattle.std.specs.Prelude.{option_map, ℤ}
 use Rattle.std.proofs.Math.Seq.{drop-cons}
 use Rattle.sil_macros.specs.declared.shapes.Place.{Place}
-use Rattle.sil_macros.specs.Rows.{row}
+use Rattle.sil_macros.specs.MacroRows.{row}
 use Rattle.sil_operands.specs.declared.expr.Term.{Term}
 use Rattle.sil_operands.specs.declared.operand.Operand.{Operand}
-use Rattle.sil_shapes.specs.Rules.{Measure}
+use Rattle.sil_shapes.specs.ShapeRules.{Measure}
 use Rattle.sil_symbols.specs.declared.stmt.Stmt.{Stmt}
 use Rattle.sil_model.specs.declared.program.Arg.{Arg}
 use Rattle.sil_model.specs.declared.program.Statement.{Statement}

@@ -11,10 +11,10 @@ use Rattle.sil_operands.specs.declared.operand.Operand.TheVariants.{Null, Expr, 
 use Rattle.layout_params.specs.Parameters.{Parameters}
 use Rattle.sil_operands.specs.Simple.{named_alone}
 use Rattle.sil_symbols.specs.declared.stmt.Stmt.{Stmt}
-use Rattle.sil_shapes.specs.Rules.{Measure, measure_of, flags_of, format_at, location_of}
-use Rattle.data_asm.specs.Fields.{first_text}
+use Rattle.sil_shapes.specs.ShapeRules.{Measure, measure_of, flags_of, format_at, location_of}
+use Rattle.data_asm.specs.DataFields.{first_text}
 use Rattle.syntax_tables.specs.declared.saying.Said.{Said}
-use Rattle.syntax_tables.specs.Files.{names_in, table_named}
+use Rattle.syntax_tables.specs.TableFiles.{names_in, table_named}
 use Rattle.sil_base.specs.Names.{is_word}
 use Rattle.sil_base.specs.declared.places.TheConstants.{FIRST_CELL}
 use Rattle.sil_model.specs.declared.program.Arg.{Arg}

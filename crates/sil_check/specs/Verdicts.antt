@@ -7,16 +7,16 @@ use Rattle.layout_params.specs.Parameters.{Parameters}
 use Rattle.sil_base.specs.declared.line.Fault.{Fault}
 use Rattle.sil_macros.specs.declared.names.Macro.{Macro}
 use Rattle.sil_macros.specs.declared.names.Macro.TheVariants as macros
-use Rattle.sil_macros.specs.Rows.{row}
+use Rattle.sil_macros.specs.MacroRows.{row}
 use Rattle.sil_cards.specs.CardParts.{CardParts}
 use Rattle.sil_symbols.specs.declared.stmt.Stmt.{Stmt}
-use Rattle.sil_symbols.specs.Rules.{faults_of}
-use Rattle.sil_shapes.specs.Rules.{statement_faults}
-use Rattle.data_asm.specs.Faults.{data_faults}
+use Rattle.sil_symbols.specs.SymbolRules.{faults_of}
+use Rattle.sil_shapes.specs.ShapeRules.{statement_faults}
+use Rattle.data_asm.specs.DataFaults.{data_faults}
 use Rattle.sil_base.specs.declared.fault_stop.FaultStop.{FaultStop}
 use Rattle.sil_base.specs.declared.fault_stop.FaultStop.TheVariants as below
 use Rattle.syntax_tables.specs.declared.saying.Said.{Said}
-use Rattle.syntax_tables.specs.Files.{written_of}
+use Rattle.syntax_tables.specs.TableFiles.{written_of}
 use Rattle.sil_model.specs.declared.program.Program.{Program}
 use Rattle.sil_model.specs.Built.{is_built}
 use Rattle.sil_check.specs.declared.stop.CheckStop.{CheckStop}
@@ -24,7 +24,7 @@ use Rattle.sil_check.specs.declared.stop.CheckStop.TheVariants as stop
 use Rattle.sil_check.specs.Specials.{special_faults}
 use Rattle.sil_check.specs.Standard.{is_standard}
 use Rattle.sil_check.specs.Statements.{statements_of}
-use Rattle.sil_check.specs.Tables.{table_faults}
+use Rattle.sil_check.specs.TableFaults.{table_faults}
 use Rattle.sil_check.specs.Programs.{program_of, is_static_program}
 
 -- the macros of the assembly but FORMAT

@@ -2,11 +2,11 @@
 ghost use Rattle.std.specs.Prelude.{◌≡◌, ◌∷◌, [], MatchResult, IfOk, Some, option_and_then};
 ghost use Rattle.sil_operands.specs.Simple.{named_alone};
 ghost use Rattle.sil_symbols.specs.Symbols.{value_of};
-ghost use Rattle.sil_shapes.specs.Held.{measure_in};
-ghost use Rattle.sil_shapes.specs.Rules.{flags_of, format_at, location_of};
-ghost use Rattle.syntax_tables.specs.Files.{names_in, table_named};
+ghost use Rattle.sil_shapes.specs.HeldSources.{measure_in};
+ghost use Rattle.sil_shapes.specs.ShapeRules.{flags_of, format_at, location_of};
+ghost use Rattle.syntax_tables.specs.TableFiles.{names_in, table_named};
 ghost use Rattle.sil_check.specs.Arguments.{action_named, arg_by, arg_of, args_of, first_of, list_arg, null_arg, rest_of, text_at};
-ghost use Rattle.sil_check.specs.Held.{IsBound, IsUnmade, scope_in};
+ghost use Rattle.sil_check.specs.HeldPrograms.{IsBound, IsUnmade, scope_in};
 
 use crate::bound::BoundSource;
 use crate::lists::{locations_in, one_location, one_place, places_in};

@@ -1,11 +1,11 @@
 // The program of statements.
 ghost use Rattle.std.specs.Prelude.{◌≡◌, MatchResult, IfOk, Some};
-ghost use Rattle.sil_symbols.specs.Parts.{part_of, is_format};
+ghost use Rattle.sil_symbols.specs.StatementParts.{part_of, is_format};
 ghost use Rattle.sil_symbols.specs.Symbols.{value_of};
 ghost use Rattle.syntax_tables.specs.Tables.{tables_of};
 ghost use Rattle.sil_check.specs.Programs.{formats_of, machine_statement, machine_statements, program_over};
 ghost use Rattle.sil_check.specs.Specials.{specials_in};
-ghost use Rattle.sil_check.specs.Held.{IsBound, IsUnmade, scope_in};
+ghost use Rattle.sil_check.specs.HeldPrograms.{IsBound, IsUnmade, scope_in};
 
 use crate::arguments::args_of;
 use crate::bound::BoundSource;

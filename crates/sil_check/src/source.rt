@@ -8,11 +8,11 @@ ghost use Rattle.sil_cards.specs.Cards.{AreCards};
 ghost use Rattle.sil_model.specs.Built.{AreBuilt};
 ghost use Rattle.sil_model.specs.WellFormed.{IsTable, IsWellFormed};
 ghost use Rattle.data_asm.specs.Cells.{static_cells_of};
-ghost use Rattle.sil_symbols.specs.Rules.{EndsOnce};
+ghost use Rattle.sil_symbols.specs.SymbolRules.{EndsOnce};
 ghost use Rattle.sil_symbols.specs.Symbols.{value_of};
-ghost use Rattle.syntax_tables.specs.Files.{names_in};
+ghost use Rattle.syntax_tables.specs.TableFiles.{names_in};
 ghost use Rattle.syntax_tables.specs.Tables.{tables_of};
-ghost use Rattle.sil_check.specs.Held.{HaveShortLists, IsBound, IsMadeOf, IsProgramOf};
+ghost use Rattle.sil_check.specs.HeldPrograms.{HaveShortLists, IsBound, IsMadeOf, IsProgramOf};
 ghost use Rattle.sil_check.specs.Specials.{special_faults};
 ghost use Rattle.sil_check.specs.Verdicts.{is_assembled, is_built_source, is_built_statement, unless_faults, verdict_built, verdict_with, verdict_of, verdict, IsStopFor};
 

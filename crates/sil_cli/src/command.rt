@@ -4,7 +4,7 @@ ghost use Rattle.std.specs.FinMap.{insert};
 ghost use Rattle.unit_io.specs.Units.{tapes_of};
 ghost use Rattle.sil_install.specs.Installed.{IsInstalled};
 ghost use Rattle.sil_cli.specs.Endings.{is_free, is_free_end, ending_of};
-ghost use Rattle.sil_cli.specs.Files.{StopCause};
+ghost use Rattle.sil_cli.specs.CommandFiles.{StopCause};
 ghost use Rattle.sil_cli.specs.Inputs.{Job, job_at};
 ghost use Rattle.sil_cli.specs.Orders.{order_by};
 ghost use Rattle.sil_cli.specs.Report.{Comes, Keeps, Causes};

@@ -3,7 +3,7 @@ ghost use Rattle.std.specs.Prelude.{◌≡◌, ◌≤◌, length, true, map};
 ghost use Rattle.std.specs.Option.{option_map};
 ghost use Rattle.std.specs.String.{string_bytes};
 ghost use Rattle.std.specs.Str.{all_ascii_digits};
-ghost use Rattle.sil_cli.specs.Words.{order_of, steps_of, is_argument, value_from};
+ghost use Rattle.sil_cli.specs.CommandWords.{order_of, steps_of, is_argument, value_from};
 ghost use Rattle.sil_cli.specs.Orders.{order_by};
 
 use crate::order::Order;

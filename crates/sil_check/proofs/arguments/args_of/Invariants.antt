@@ -1,5 +1,5 @@
 use Rattle.std.proofs.Common.{◌≡◌, drop}
-use Rattle.sil_check.specs.Held.{scope_in}
+use Rattle.sil_check.specs.HeldPrograms.{scope_in}
 use Rattle.sil_check.specs.Arguments.{args_of}
 use Rattle.sil_check.proofs.Made.{after}
 use Rattle.sil_check.proofs.arguments.args_of.Given as goal

@@ -1,5 +1,5 @@
 use Rattle.std.proofs.Common.{◌≡◌, drop}
-use Rattle.sil_shapes.specs.Held.{measure_in}
+use Rattle.sil_shapes.specs.HeldSources.{measure_in}
 use Rattle.sil_check.specs.Arguments.{locations_in}
 use Rattle.sil_check.proofs.Made.{after}
 use Rattle.sil_check.proofs.lists.locations_in.Given as goal

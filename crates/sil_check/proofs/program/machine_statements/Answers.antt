@@ -1,6 +1,6 @@
 use Rattle.std.proofs.Common.{◌≡◌, ◌+◌, ◌++◌, ◌∷◌, [], true, false, drop, ap, sym, ◌∙◌}
-use Rattle.sil_macros.specs.Rows.{row}
-use Rattle.sil_check.specs.Held.{scope_in}
+use Rattle.sil_macros.specs.MacroRows.{row}
+use Rattle.sil_check.specs.HeldPrograms.{scope_in}
 use Rattle.sil_check.specs.Programs.{machine_statements}
 use Rattle.sil_check.proofs.Made.{after, passed_over, taken}
 use Rattle.sil_check.proofs.program.machine_statements.Goals as goal

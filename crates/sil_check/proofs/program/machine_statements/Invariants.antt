@@ -1,6 +1,6 @@
 use Rattle.std.proofs.Common.{◌≡◌, drop}
 use Rattle.sil_check.specs.Programs.{machine_statements}
-use Rattle.sil_check.specs.Held.{scope_in}
+use Rattle.sil_check.specs.HeldPrograms.{scope_in}
 use Rattle.sil_check.proofs.Made.{after}
 use Rattle.sil_check.proofs.program.machine_statements.Given as goal
 

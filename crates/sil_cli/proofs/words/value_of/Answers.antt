@@ -3,7 +3,7 @@ use Rattle.std.specs.declared.result.Result.{Result}
 use Rattle.std.specs.Str.{all_ascii_digits}
 use Rattle.std.specs.Str.Parse.{ParsesUnsigned}
 use Rattle.std.proofs.lemmas.Str.Parse.{IsNumeralModel, numerals_by_fold, parse_gives, digits_value_short}
-use Rattle.sil_cli.specs.Words.{value_from}
+use Rattle.sil_cli.specs.CommandWords.{value_from}
 use Rattle.sil_cli.proofs.words.value_of.Goals as goal
 
 own : IsNumeralModel (λ ds. all_ascii_digits ds ≡ true) (value_from 0)

@@ -3,7 +3,7 @@ use Rattle.std.specs.Prelude.{ℕ, Bool, true, false, List, [], ◌∷◌, codes
 use Rattle.sil_macros.specs.declared.names.Macro.{Macro}
 use Rattle.sil_macros.specs.declared.names.Macro.TheVariants.{Acomp, Acompc, Addlg, Addsib, Addson, Adjust, Adreal, Aeql, Aeqlc, Aeqlic, Apdsp, Array, Bksize, Bkspce, Branch, Branic, Buffer, Chkval, Clertb, Copy, Cpypat, Date, Decra, Deql, Descr, Divide, Dvreal, End, Endex, Enfile, Equ, Expint, Exreal, Format, Fshrtn, Getac, Getbal, Getd, Getdc, Getlg, Getlth, Getsiz, Getspc, Incra, Incrv, Init, Insert, Intrl, Intspc, Istack, Lcomp, Leqlc, Lexcmp, Lhere, Link, Linkor, Load, Locapt, Locapv, Locsp, Lvalue, Maknod, Mnreal, Mnsint, Mova, Movblk, Movd, Movdic, Movv, Mpreal, Mstime, Mult, Multc, Ordvst, Output, Plugtb, Pop, Proc, Pstack, Push, Putac, Putd, Putdc, Putlg, Putspc, Putvc, Rcall, Rcomp, Realst, Remsp, Resetf, Rewind, Rlint, Rplace, Rrturn, Rsetfi, Sbreal, Selbra, Setac, Setav, Setf, Setfi, Setlc, Setsiz, Setsp, Setva, Setvc, Shortn, Spcint, Spec, Spop, Spreal, Spush, Stprnt, Stread, Stream, String, Subsp, Subtrt, Sum, Testf, Testfi, Title, Top, Trimsp, Unload, Varid, Vcmpic, Veql, Veqlc}
 use Rattle.sil_macros.specs.declared.shapes.Place.{Place}
-use Rattle.sil_macros.specs.Places.{maybe, D, S, N, F, L, R, T, K, X, M, DD, SS, LL, E}
+use Rattle.sil_macros.specs.OperandPlaces.{maybe, D, S, N, F, L, R, T, K, X, M, DD, SS, LL, E}
 
 pub record Row : Type 0 where
   pub number : ℕ

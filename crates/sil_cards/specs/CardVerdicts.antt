@@ -3,13 +3,13 @@ use Rattle.std.specs.Prelude.{ℕ, ◌==◌, nat_lt, nat_le, Bool, true, false, 
 use Rattle.std.specs.List.{list_all}
 use Rattle.sil_macros.specs.Macros.{with_name}
 use Rattle.sil_base.specs.Names.{is_name, is_word}
-use Rattle.sil_operands.specs.Reading.{operands_of}
+use Rattle.sil_operands.specs.OperandReading.{operands_of}
 use Rattle.sil_operands.specs.declared.operand.Operand.{Operand}
 use Rattle.sil_operands.specs.declared.operand.Operand.TheVariants.{Null, Expr, List as ListOperand, Text}
 use Rattle.sil_operands.specs.Simple.{named_alone, is_null}
 use Rattle.sil_cards.specs.declared.verdict.Verdict.{Verdict}
 use Rattle.sil_cards.specs.declared.verdict.Verdict.TheVariants.{Skipped, Broken, Copies, Taken}
-use Rattle.sil_cards.specs.Fields.{Fields, fields_of, is_comment}
+use Rattle.sil_cards.specs.CardFields.{Fields, fields_of, is_comment}
 
 -- a tab, or a byte from 32 to 126
 abbrev pub is_card_byte : ℕ → Bool

@@ -2,7 +2,7 @@
 -- proved.
 use Rattle.std.specs.Prelude.{◌≡◌, ℕ, zero, suc, List, [], ◌∷◌, length, take, drop, Option, Some, None, is_some, Bool, ◌&&◌, ◌||◌, ◌==◌, nat_le, if◌then◌else◌, option_and_then, Result, MatchResult}
 use Rattle.std.specs.Option.{option_map}
-use Rattle.sil_format.specs.Grammar.{is_blank, are_blanks, is_digit_or_blank, value_of, is_slash}
+use Rattle.sil_format.specs.FormatGrammar.{is_blank, are_blanks, is_digit_or_blank, value_of, is_slash}
 use Rattle.sil_format.specs.declared.format.DataKind.{DataKind}
 use Rattle.sil_format.specs.declared.format.DataKind.TheVariants.{Integer, Character, Real}
 use Rattle.sil_format.specs.declared.format.FormatStop.{FormatStop}

@@ -12,11 +12,11 @@ use Rattle.rv_emulate.specs.declared.end.CpuEnd.{CpuEnd}
 use Rattle.rv_emulate.specs.declared.end.CpuEnd.TheVariants.{Fetch}
 use Rattle.rv_emulate.specs.declared.end.CpuStep.{CpuStep}
 use Rattle.rv_emulate.specs.declared.end.CpuStep.TheVariants as steps
-use Rattle.rv_emulate.specs.Memory.{Memory}
+use Rattle.rv_emulate.specs.EmulatorMemory.{Memory}
 use Rattle.rv_emulate.specs.Cpus.{CpuState}
-use Rattle.rv_emulate.specs.States.{State, Outcome, On, Ended}
-use Rattle.rv_emulate.specs.Steps.{ends_with, with_instr}
-use Rattle.rv_emulate.specs.Runs.{on_state}
+use Rattle.rv_emulate.specs.EmulatorStates.{State, Outcome, On, Ended}
+use Rattle.rv_emulate.specs.EmulatorSteps.{ends_with, with_instr}
+use Rattle.rv_emulate.specs.EmulatorRuns.{on_state}
 
 abbrev pub memory_of : Regions → Memory
 memory_of m = record { cells = m.cells.items; kinds = m.kinds.items; tables = m.tables.items; scratch = m.scratch.items }

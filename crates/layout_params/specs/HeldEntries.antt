@@ -6,7 +6,7 @@ use Rattle.layout_params.specs.declared.entries.Value.TheVariants as held
 use Rattle.layout_params.specs.declared.entries.Entry.{Entry as HeldEntry}
 use Rattle.layout_params.specs.declared.draft.Draft.{Draft}
 use Rattle.layout_params.specs.Views.{sizes_of}
-use Rattle.layout_params.specs.Lines.{Value, Number, Date, Entry}
+use Rattle.layout_params.specs.ParameterLines.{Value, Number, Date, Entry}
 use Rattle.layout_params.specs.Parameters.{Parameters}
 
 abbrev pub value_held : HeldValue → Value

@@ -5,7 +5,7 @@ use Rattle.std.specs.Option.{option_map_or}
 use Rattle.std.specs.Cmp.Lexicographic.{pointwise}
 use Rattle.indexmap.specs.IndexMap.{get_by}
 use Rattle.layout_params.specs.Parameters.{Parameters}
-use Rattle.layout_params.specs.Symbols.{symbol_in, symbol_of}
+use Rattle.layout_params.specs.ParameterSymbols.{symbol_in, symbol_of}
 use Rattle.sil_operands.specs.declared.expr.Term.{Term}
 use Rattle.sil_macros.specs.declared.shapes.Place.{Place}
 use Rattle.sil_symbols.specs.declared.names.Names.{Names}
@@ -15,11 +15,11 @@ use Rattle.sil_symbols.specs.declared.outcome.Outcome.{Outcome}
 use Rattle.sil_symbols.specs.declared.outcome.Outcome.TheVariants.{Value, NoValue, Circular}
 use Rattle.sil_symbols.specs.declared.addresses.Spot.{Spot}
 use Rattle.sil_symbols.specs.declared.stmt.Stmt.{Stmt}
-use Rattle.sil_symbols.specs.Parts.{part_of, is_equation}
+use Rattle.sil_symbols.specs.StatementParts.{part_of, is_equation}
 use Rattle.sil_symbols.specs.Expressions.{some_name, is_circular}
 use Rattle.sil_symbols.specs.Labels.{labelled, origin_by}
-use Rattle.sil_symbols.specs.Rules.{is_apart}
-use Rattle.sil_symbols.specs.Values.{Meaning, Fixed, Equals, first_expression, meaning_of, outcome_within}
+use Rattle.sil_symbols.specs.SymbolRules.{is_apart}
+use Rattle.sil_symbols.specs.NameValues.{Meaning, Fixed, Equals, first_expression, meaning_of, outcome_within}
 
 -- the value of a parameter symbol, and the place of a label
 abbrev pub parameter_in : Names → List ℕ → Option ℤ

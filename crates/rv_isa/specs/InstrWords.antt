@@ -3,7 +3,7 @@ use Rattle.std.specs.Prelude.{◌≡◌, ℕ, ◌+◌, ◌-◌, ◌*◌, ◌/◌
 use Rattle.rv_isa.specs.declared.instr.Instr.{Instr}
 use Rattle.rv_isa.specs.declared.instr.Instr.TheVariants.{R, I, S, B, U, J, Ecall}
 use Rattle.rv_isa.specs.declared.parts.Parts.{Parts}
-use Rattle.rv_isa.specs.Rows.{r_row, i_row, shift_row, s_row, b_row, u_row}
+use Rattle.rv_isa.specs.InstrRows.{r_row, i_row, shift_row, s_row, b_row, u_row}
 
 -- a word by its fields of 7, 5, 3, 5, 5 and 7 bits, the lowest first
 abbrev pub joined : Parts → ℕ

@@ -5,15 +5,15 @@ use Rattle.sil_base.specs.declared.line.Fault.{Fault}
 use Rattle.sil_macros.specs.declared.shapes.Kind.{Kind}
 use Rattle.sil_macros.specs.declared.shapes.Kind.TheVariants as kind
 use Rattle.sil_macros.specs.declared.shapes.Place.{Place}
-use Rattle.sil_macros.specs.Rows.{row}
+use Rattle.sil_macros.specs.MacroRows.{row}
 use Rattle.sil_operands.specs.declared.operand.Operand.{Operand}
 use Rattle.sil_operands.specs.declared.operand.Operand.TheVariants.{Expr}
 use Rattle.sil_operands.specs.Simple.{named_alone}
 use Rattle.sil_symbols.specs.declared.stmt.Stmt.{Stmt}
-use Rattle.sil_symbols.specs.Rules.{faults_from}
+use Rattle.sil_symbols.specs.SymbolRules.{faults_from}
 use Rattle.sil_symbols.specs.Symbols.{value_of}
 use Rattle.syntax_tables.specs.declared.saying.Said.{Said}
-use Rattle.syntax_tables.specs.Files.{names_in, table_named}
+use Rattle.syntax_tables.specs.TableFiles.{names_in, table_named}
 use Rattle.syntax_tables.specs.Tables.{faults_of}
 use Rattle.sil_check.specs.Arguments.{first_of, rest_of}
 

@@ -1,10 +1,10 @@
 -- What holds along a run.
 use Rattle.std.specs.Prelude.{◌≡◌, ℕ, zero, suc, Some}
 use Rattle.rv_isa.specs.declared.instr.Instr.TheVariants.{Ecall}
-use Rattle.rv_isa.specs.Words.{word_of}
+use Rattle.rv_isa.specs.InstrWords.{word_of}
 use Rattle.image_file.specs.Image.{Image}
-use Rattle.rv_emulate.specs.States.{State, Outcome, On, Ended, register}
-use Rattle.rv_emulate.specs.Steps.{step, word_at}
+use Rattle.rv_emulate.specs.EmulatorStates.{State, Outcome, On, Ended, register}
+use Rattle.rv_emulate.specs.EmulatorSteps.{step, word_at}
 
 -- each of the next n states, from this one on, is so
 abbrev pub Along : Image → (State → Type 0) → ℕ → Outcome → Type 0

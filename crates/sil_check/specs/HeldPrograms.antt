@@ -7,14 +7,14 @@ use Rattle.layout_params.specs.Sizes.{packed_16}
 use Rattle.sil_operands.specs.Limits.{are_within_limits}
 use Rattle.sil_symbols.specs.declared.stmt.Stmt.{Stmt}
 use Rattle.sil_symbols.specs.Symbols.{extent, IsWithinLimits}
-use Rattle.sil_shapes.specs.Held.{IsResolution}
+use Rattle.sil_shapes.specs.HeldSources.{IsResolution}
 use Rattle.sil_model.specs.declared.program.Program.{Program}
 use Rattle.sil_model.specs.declared.program.Specials.{Specials}
 use Rattle.sil_model.specs.Memory.{FitsCell}
 use Rattle.sil_model.specs.Start.{limits_of}
 use Rattle.sil_model.specs.WellFormed.{FitsOption, IsTable}
 use Rattle.syntax_tables.specs.declared.saying.Said.{Said}
-use Rattle.syntax_tables.specs.Files.{names_in}
+use Rattle.syntax_tables.specs.TableFiles.{names_in}
 use Rattle.sil_base.specs.declared.limits.TheConstants.{MAX_TABLES}
 use Rattle.sil_check.specs.declared.bound.BoundSource.{BoundSource}
 use Rattle.sil_check.specs.declared.stop.CheckStop.{CheckStop}

@@ -3,8 +3,8 @@ use Rattle.std.specs.Prelude.{ℕ, ◌*◌, ◌%◌, Bool, false, ◌&&◌, ◌|
 use Rattle.sil_base.specs.declared.limits.TheConstants.{MAX_FORMAT_BYTES, MAX_LIST_ITEMS, MAX_VALUE_CHARACTERS}
 use Rattle.rv_emulate.specs.declared.end.CpuEnd.{CpuEnd}
 use Rattle.rv_emulate.specs.declared.end.CpuEnd.TheVariants.{Exit, Trap, Undefined, Budget, UnitFault, BadCall}
-use Rattle.rv_emulate.specs.Memory.{Memory, can_load, can_store}
-use Rattle.rv_emulate.specs.States.{register}
+use Rattle.rv_emulate.specs.EmulatorMemory.{Memory, can_load, can_store}
+use Rattle.rv_emulate.specs.EmulatorStates.{register}
 
 -- the end at a statement where the last unit call failed
 abbrev pub unit_fault : ℕ → Option ℕ → ℕ → CpuEnd

@@ -8,7 +8,7 @@ use Rattle.sil_symbols.specs.declared.origin.Origin.{Origin}
 use Rattle.sil_symbols.specs.declared.origin.Origin.TheVariants.{Parameter, Label}
 use Rattle.sil_symbols.specs.declared.outcome.Outcome.{Outcome}
 use Rattle.sil_symbols.specs.declared.outcome.Outcome.TheVariants.{Value, NoValue, Circular}
-use Rattle.sil_symbols.specs.Parts.{part_of, is_equation}
+use Rattle.sil_symbols.specs.StatementParts.{part_of, is_equation}
 use Rattle.sil_symbols.specs.Expressions.{equated}
 
 -- a name means what is known of it, or what an expression gives

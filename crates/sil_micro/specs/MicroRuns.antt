@@ -1,6 +1,6 @@
 -- Runs of codes.
 use Rattle.std.specs.Prelude.{◌≡◌, ℕ, zero, suc, ◌+◌, List, [], ◌∷◌, ◌++◌, length, Option, Some, None, nat_lt, if◌then◌else◌, ℤ, slice_get}
-use Rattle.unit_io.specs.Runs.{Run}
+use Rattle.unit_io.specs.RunEnds.{Run}
 use Rattle.sil_model.specs.declared.end.End.{End}
 use Rattle.sil_model.specs.declared.end.End.TheVariants.{Undefined}
 use Rattle.sil_model.specs.Access.{◌>>=◌}
@@ -10,7 +10,7 @@ use Rattle.sil_micro.specs.declared.op.Op.TheVariants.{Begin}
 use Rattle.sil_micro.specs.declared.op.Target.TheVariants.{Op as Place, Statement}
 use Rattle.sil_micro.specs.Codes.{MicroCode, place_of, return_of}
 use Rattle.sil_micro.specs.Operations.{Effect, On, To, ToReturn, Over, Stuck, entered_statement, perform}
-use Rattle.sil_micro.specs.States.{Setting, Micro, first_micro}
+use Rattle.sil_micro.specs.MicroStates.{Setting, Micro, first_micro}
 
 -- how a run stands: at the operation of a number; ended, with no end where it came to a call on a unit that doesn't tell its tape; or stuck
 pub data Outcome : Type 0 where

@@ -4,7 +4,7 @@ use Rattle.std.specs.Prelude.{◌≡◌, ℕ, List, [], ◌∷◌, length, Optio
 use Rattle.std.specs.Option.{option_map}
 use Rattle.std.specs.List.{slice_split, onto_first}
 use Rattle.sil_base.specs.Names.{is_name, is_number, value_of}
-use Rattle.sil_operands.specs.Grammar.{field_text}
+use Rattle.sil_operands.specs.OperandGrammar.{field_text}
 use Rattle.sil_operands.specs.Limits.{Limits, card_limits}
 use Rattle.sil_operands.specs.declared.cutting.Place.{Place}
 use Rattle.sil_operands.specs.declared.cutting.Place.TheVariants.{Outside, Within, Quoted}

@@ -3,14 +3,14 @@ use Rattle.std.specs.Prelude.{◌≡◌, ℕ, ◌+◌, List, [], ◌∷◌, ◌+
 use Rattle.std.specs.List.{list_any}
 use Rattle.std.specs.List.Sorted.{IsStrictlyIncreasing}
 use Rattle.layout_params.specs.Parameters.{Parameters}
-use Rattle.layout_params.specs.Symbols.{symbol_of}
+use Rattle.layout_params.specs.ParameterSymbols.{symbol_of}
 use Rattle.sil_base.specs.declared.line.Fault.{Fault}
 use Rattle.sil_base.specs.declared.line.TheConstants.{SOURCE_FILE}
 use Rattle.sil_base.specs.Faults.{fault_at}
 use Rattle.sil_macros.specs.declared.shapes.Kind.{Kind}
 use Rattle.sil_macros.specs.declared.shapes.Kind.TheVariants.{Table, Key}
 use Rattle.sil_macros.specs.declared.shapes.Place.{Place}
-use Rattle.sil_macros.specs.Rows.{row}
+use Rattle.sil_macros.specs.MacroRows.{row}
 use Rattle.sil_operands.specs.declared.expr.Term.{Term}
 use Rattle.sil_operands.specs.declared.operand.Operand.{Operand}
 use Rattle.sil_operands.specs.declared.operand.Operand.TheVariants.{Null, Expr, List as Listed, Text}
@@ -18,10 +18,10 @@ use Rattle.sil_base.specs.declared.limits.TheConstants.{MAX_CELLS, MAX_STATEMENT
 use Rattle.sil_symbols.specs.declared.outcome.Outcome.{Outcome}
 use Rattle.sil_symbols.specs.declared.outcome.Outcome.TheVariants.{Value, NoValue, Circular}
 use Rattle.sil_symbols.specs.declared.stmt.Stmt.{Stmt}
-use Rattle.sil_symbols.specs.Parts.{part_of, is_equation, is_end, is_unread, takes_size}
+use Rattle.sil_symbols.specs.StatementParts.{part_of, is_equation, is_end, is_unread, takes_size}
 use Rattle.sil_symbols.specs.Expressions.{outcome_of, some_name, is_circular}
 use Rattle.sil_symbols.specs.Labels.{is_empty, is_labelled, labelled, origin_by}
-use Rattle.sil_symbols.specs.Values.{first_expression}
+use Rattle.sil_symbols.specs.NameValues.{first_expression}
 use Rattle.sil_symbols.specs.Addresses.{size_of}
 use Rattle.sil_symbols.specs.Symbols.{size_names, names_of, extent, all_cells}
 

@@ -6,16 +6,16 @@ use Rattle.rv_isa.specs.declared.instr.IOp.TheVariants.{Addi, Slti, Sltiu, Xori,
 use Rattle.rv_isa.specs.declared.instr.UOp.TheVariants.{Lui, Auipc}
 use Rattle.rv_isa.specs.declared.instr.Instr.{Instr}
 use Rattle.rv_isa.specs.declared.instr.Instr.TheVariants.{R, I, S, B, U, J, Ecall}
-use Rattle.rv_isa.specs.Words.{twos}
+use Rattle.rv_isa.specs.InstrWords.{twos}
 use Rattle.rv_isa.specs.Decoded.{decoded}
 use Rattle.sil_base.specs.declared.places.TheConstants.{FIRST_WORD}
 use Rattle.image_file.specs.Image.{Image}
 use Rattle.rv_emulate.specs.declared.end.CpuEnd.{CpuEnd}
 use Rattle.rv_emulate.specs.declared.end.CpuEnd.TheVariants.{Illegal, Fetch, Load, Store}
-use Rattle.rv_emulate.specs.Memory.{Memory, loaded, stored}
-use Rattle.rv_emulate.specs.States.{State, Outcome, On, Ended, register, with_register, statement_number}
-use Rattle.rv_emulate.specs.Calls.{call, is_unit_call, absent}
-pub use Rattle.rv_emulate.specs.Values.{sum64, extended_from, extended, r_value, taken, s_width}
+use Rattle.rv_emulate.specs.EmulatorMemory.{Memory, loaded, stored}
+use Rattle.rv_emulate.specs.EmulatorStates.{State, Outcome, On, Ended, register, with_register, statement_number}
+use Rattle.rv_emulate.specs.Ecalls.{call, is_unit_call, absent}
+pub use Rattle.rv_emulate.specs.InstrValues.{sum64, extended_from, extended, r_value, taken, s_width}
 
 abbrev pub ends_with : CpuEnd → State → Outcome
 ends_with end s = Ended (Some end) s.tapes

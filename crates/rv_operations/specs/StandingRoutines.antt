@@ -2,10 +2,10 @@
 use Rattle.std.specs.Prelude.{ℕ}
 use Rattle.layout_params.specs.declared.cell.Field.TheVariants.{F, V}
 use Rattle.layout_params.specs.Areas.{all_cells}
-use Rattle.sil_micro.specs.States.{Setting}
+use Rattle.sil_micro.specs.MicroStates.{Setting}
 use Rattle.sil_micro.specs.Operations.{scratch_words}
 use Rattle.image_file.specs.Image.{Image}
-use Rattle.rv_routines.specs.Fields.{bits_of}
+use Rattle.rv_routines.specs.FieldCodes.{bits_of}
 use Rattle.rv_routines.specs.Routines.{IsRoutine, kept}
 use Rattle.rv_routines.specs.Tests.{check_test, fit_test, open_test, opened, char_test, word_test, below_test, make_test, made, kind_test, kinded, state_test, state_written}
 use Rattle.rv_operations.specs.declared.places.Routines.{Routines}

@@ -6,7 +6,7 @@ use Rattle.sil_base.specs.declared.line.TheConstants.{PARAMETER_FILE}
 use Rattle.sil_base.specs.Faults.{fault_at}
 use Rattle.layout_params.specs.Sizes.{Sizes, descr_fits, field_fits, f_width_fits, v_width_fits, fields_apart}
 use Rattle.sil_base.specs.Names.{is_word}
-use Rattle.layout_params.specs.Lines.{breaks_form, Entry, lines_of, entries_from}
+use Rattle.layout_params.specs.ParameterLines.{breaks_form, Entry, lines_of, entries_from}
 use Rattle.layout_params.specs.Parameters.{Settings, Parameters, is_bit_below}
 use Rattle.layout_params.specs.Entries.{parameter_names, entry_named, line_named, parameters_in}
 

@@ -4,7 +4,7 @@ use Rattle.image_file.specs.declared.stop.ImageStop.{ImageStop}
 use Rattle.image_file.specs.declared.stop.ImageStop.TheVariants as stop
 use Rattle.image_file.specs.declared.counts.Counts.{Counts}
 use Rattle.image_file.specs.Image.{Image, StatementEntry}
-use Rattle.image_file.specs.Grammar.{Part, Begins}
+use Rattle.image_file.specs.ImageGrammar.{Part, Begins}
 
 -- a stop at this part, for this cause, or for want of memory
 abbrev pub StopsAt : ImageStop → ℕ → Type 0 → Type 0

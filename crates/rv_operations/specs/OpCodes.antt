@@ -27,7 +27,7 @@ use Rattle.sil_micro.specs.declared.op.Test.{Test}
 use Rattle.sil_micro.specs.declared.op.Test.TheVariants.{Eq, Ne, Lt, Ge, Ltu, Geu}
 use Rattle.rv_straight.specs.Constants.{upper_of, lower_of, constant_code, constant_length}
 use Rattle.rv_straight.specs.Jumps.{leap_code, jump_if_code}
-use Rattle.rv_routines.specs.Fields.{load_op, store_op}
+use Rattle.rv_routines.specs.FieldCodes.{load_op, store_op}
 use Rattle.rv_operations.specs.Homes.{home}
 use Rattle.rv_operations.specs.declared.places.Routines.{Routines}
 use Rattle.rv_operations.specs.declared.places.Links.{Links}

@@ -1,13 +1,13 @@
 -- Runs of an image's bytes.
 use Rattle.std.specs.Prelude.{◌≡◌, ℕ, List, Some, is_some, true}
 use Rattle.unit_io.specs.Tapes.{Tapes}
-use Rattle.image_file.specs.Grammar.{IsFirstWrong}
+use Rattle.image_file.specs.ImageGrammar.{IsFirstWrong}
 use Rattle.image_file.specs.Image.{Image, IsImage}
 use Rattle.image_file.specs.Spelling.{spelling}
 use Rattle.sil_cli.specs.declared.ending.Stop.{Stop}
 use Rattle.sil_cli.specs.declared.ending.Stop.TheVariants as stop
 use Rattle.rv_emulate.specs.declared.end.CpuEnd.{CpuEnd}
-use Rattle.rv_emulate.specs.Runs.{emulation, budget}
+use Rattle.rv_emulate.specs.EmulatorRuns.{emulation, budget}
 
 -- the image's run under its budget has an end: it came to no unit that doesn't tell its tape
 abbrev pub IsTold : Image → Tapes → ℕ → Type 0

@@ -7,13 +7,13 @@ use Rattle.sil_base.specs.declared.line.Fault.{Fault}
 use Rattle.sil_macros.specs.declared.shapes.Kind.{Kind}
 use Rattle.sil_macros.specs.declared.shapes.Kind.TheVariants as kind
 use Rattle.sil_macros.specs.declared.shapes.Place.{Place}
-use Rattle.sil_macros.specs.Rows.{row}
+use Rattle.sil_macros.specs.MacroRows.{row}
 use Rattle.sil_operands.specs.declared.expr.Term.{Term}
 use Rattle.sil_operands.specs.declared.operand.Operand.{Operand}
 use Rattle.sil_operands.specs.declared.operand.Operand.TheVariants.{Null, Expr, List as Listed, Text}
 use Rattle.sil_operands.specs.Simple.{named_alone}
 use Rattle.sil_symbols.specs.declared.stmt.Stmt.{Stmt}
-use Rattle.sil_symbols.specs.Rules.{faults_from}
+use Rattle.sil_symbols.specs.SymbolRules.{faults_from}
 use Rattle.sil_symbols.specs.Symbols.{value_of, format_of}
 use Rattle.sil_shapes.specs.Shapes.{fits}
 use Rattle.sil_shapes.specs.Locations.{executable_count, statement_at, number_within}

@@ -1,5 +1,5 @@
 -- Fields as the code holds them.
-use Rattle.sil_cards.specs.Fields.{Fields}
+use Rattle.sil_cards.specs.CardFields.{Fields}
 use Rattle.sil_cards.specs.declared.fields.Fields as declared
 
 abbrev pub fields_held : declared.Fields → Fields

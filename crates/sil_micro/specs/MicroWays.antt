@@ -4,7 +4,7 @@ use Rattle.sil_model.specs.declared.end.End.{End}
 use Rattle.sil_micro.specs.declared.op.Op.{Op}
 use Rattle.sil_micro.specs.declared.op.Target.TheVariants.{Op as Place, Statement}
 use Rattle.sil_micro.specs.Operations.{Effect, On, To, ToReturn, Over, Stuck, perform}
-use Rattle.sil_micro.specs.States.{Setting, Micro}
+use Rattle.sil_micro.specs.MicroStates.{Setting, Micro}
 
 -- a way comes to a statement, or to a jump to the return part of a call, or ends the run, or is stuck, or isn't done yet
 pub data Way : Type 0 where

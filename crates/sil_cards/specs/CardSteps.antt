@@ -17,7 +17,7 @@ use Rattle.sil_cards.specs.declared.verdict.Verdict.TheVariants.{Copies}
 use Rattle.sil_cards.specs.CardParts.{CardParts}
 use Rattle.sil_base.specs.Lines.{without_end}
 use Rattle.sil_base.specs.Names.{is_word}
-use Rattle.sil_cards.specs.Verdicts.{verdict}
+use Rattle.sil_cards.specs.CardVerdicts.{verdict}
 use Rattle.sil_cards.specs.Cards.{IsGood, AreCards, numbers_of}
 use Rattle.sil_cards.specs.Reads.{Read}
 use Rattle.sil_cards.specs.Readings.{reading, answer_of}

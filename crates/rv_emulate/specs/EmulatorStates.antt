@@ -6,7 +6,7 @@ use Rattle.sil_base.specs.declared.places.TheConstants.{FIRST_WORD}
 use Rattle.image_file.specs.Image.{Image}
 use Rattle.rv_emulate.specs.declared.end.CpuEnd.{CpuEnd}
 use Rattle.sil_base.specs.declared.limits.TheConstants.{SCRATCH_BYTES}
-use Rattle.rv_emulate.specs.Memory.{Memory}
+use Rattle.rv_emulate.specs.EmulatorMemory.{Memory}
 
 -- the place of the next instruction, the registers x0 to x31, the memory, the tapes of the units, and the unit of the last unit call where that call failed
 pub record State : Type 0 where

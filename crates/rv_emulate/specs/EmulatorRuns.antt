@@ -2,12 +2,12 @@
 use Rattle.std.specs.Prelude.{ℕ, zero, suc, ◌+◌, ◌*◌, List, [], ◌∷◌, ◌++◌, Option, Some, None, if◌then◌else◌, ◌==◌}
 use Rattle.sil_base.specs.declared.limits.TheConstants.{STATEMENT_INSTRUCTIONS, VISIT_INSTRUCTIONS}
 use Rattle.unit_io.specs.Tapes.{Tapes}
-use Rattle.unit_io.specs.Runs.{Run}
+use Rattle.unit_io.specs.RunEnds.{Run}
 use Rattle.image_file.specs.Image.{Image, StatementEntry}
 use Rattle.rv_emulate.specs.declared.end.CpuEnd.{CpuEnd}
 use Rattle.rv_emulate.specs.declared.end.CpuEnd.TheVariants.{Runaway}
-use Rattle.rv_emulate.specs.States.{State, Outcome, On, Ended, start, steps_left, cell_total}
-use Rattle.rv_emulate.specs.Steps.{step}
+use Rattle.rv_emulate.specs.EmulatorStates.{State, Outcome, On, Ended, start, steps_left, cell_total}
+use Rattle.rv_emulate.specs.EmulatorSteps.{step}
 
 abbrev pub on_state : Outcome → (State → Outcome) → Outcome
 on_state (On s) go = go s

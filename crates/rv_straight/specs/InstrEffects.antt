@@ -7,9 +7,9 @@ use Rattle.rv_isa.specs.declared.instr.IOp.TheVariants.{Addi, Addiw, Slti, Sltiu
 use Rattle.rv_isa.specs.declared.instr.UOp.TheVariants.{Lui, Auipc}
 use Rattle.rv_isa.specs.declared.instr.Instr.{Instr}
 use Rattle.rv_isa.specs.declared.instr.Instr.TheVariants.{R, I, S, B, U, J, Ecall}
-use Rattle.rv_isa.specs.Words.{twos}
-use Rattle.rv_emulate.specs.Memory.{Memory, loaded, stored}
-use Rattle.rv_emulate.specs.Values.{sum64, extended, r_value, s_width}
+use Rattle.rv_isa.specs.InstrWords.{twos}
+use Rattle.rv_emulate.specs.EmulatorMemory.{Memory, loaded, stored}
+use Rattle.rv_emulate.specs.InstrValues.{sum64, extended, r_value, s_width}
 
 -- a value of 64 bits goes to a register; a value goes there of which that is to be said, as one that is loaded; a memory is left; a branch, a jump and a call are something else
 pub data Effect : Type 0 where

@@ -3,7 +3,7 @@ use Rattle.std.specs.Prelude.{◌≡◌}
 use Rattle.sil_symbols.specs.Resolved.{Resolves}
 use Rattle.sil_shapes.specs.declared.resolution.Resolution.{Resolution}
 use Rattle.sil_shapes.specs.Locations.{executable_count}
-use Rattle.sil_shapes.specs.Rules.{Measure, measure_of}
+use Rattle.sil_shapes.specs.ShapeRules.{Measure, measure_of}
 
 -- the symbols are those of the source, and the executable statements are counted
 pub record IsResolution (source : Resolution) : Type 0 where

@@ -7,11 +7,11 @@ use Rattle.sil_macros.specs.declared.names.Macro.{Macro}
 use Rattle.sil_macros.specs.declared.names.Macro.TheVariants as macros
 use Rattle.sil_operands.specs.declared.expr.Term.{Term}
 use Rattle.sil_operands.specs.declared.operand.Operand.{Operand}
-use Rattle.sil_format.specs.Reading.{is_format}
+use Rattle.sil_format.specs.FormatReading.{is_format}
 use Rattle.sil_symbols.specs.declared.stmt.Stmt.{Stmt}
 use Rattle.sil_symbols.specs.Symbols.{value_of}
-use Rattle.sil_symbols.specs.Rules.{faults_from}
-use Rattle.data_asm.specs.Fields.{first_text, first_fields, second_fields, fit}
+use Rattle.sil_symbols.specs.SymbolRules.{faults_from}
+use Rattle.data_asm.specs.DataFields.{first_text, first_fields, second_fields, fit}
 
 -- each F of a statement, and each V or L, is within its limit
 abbrev pub data_fits : ℕ → ℕ → (List Term → Option ℤ) → Macro → List Operand → Bool
