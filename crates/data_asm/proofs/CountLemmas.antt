@@ -16,19 +16,19 @@ use Rattle.sil_operands.specs.declared.expr.Term.{Term}
 use Rattle.sil_operands.specs.declared.operand.Operand.{Operand}
 use Rattle.sil_operands.specs.declared.operand.Operand.TheVariants.{Null, Expr, List as Listed, Text}
 use Rattle.sil_symbols.specs.declared.stmt.Stmt.{Stmt}
-use Rattle.sil_symbols.specs.Parts.{part_of, takes_size}
-use Rattle.sil_symbols.specs.Values.{first_expression}
+use Rattle.sil_symbols.specs.StatementParts.{part_of, takes_size}
+use Rattle.sil_symbols.specs.NameValues.{first_expression}
 use Rattle.sil_symbols.specs.Addresses as symbols
 use Rattle.sil_symbols.specs.Addresses.{size_of, text_length, part_cells, past_part, past, spot_after, first_spot}
 use Rattle.sil_symbols.specs.Symbols.{size_names, value_of, extent}
-use Rattle.sil_symbols.specs.Rules.{with_fault, faults_from}
+use Rattle.sil_symbols.specs.SymbolRules.{with_fault, faults_from}
 use Rattle.sil_symbols.specs.Laws.{HasSize}
 use Rattle.sil_base.specs.declared.places.TheConstants.{FIRST_CELL}
 use Rattle.sil_model.specs.Start.{zero_cell}
-use Rattle.data_asm.specs.Texts.{text_cells}
-use Rattle.data_asm.specs.Fields.{value_at, first_text, as_number}
+use Rattle.data_asm.specs.CharacterCells.{text_cells}
+use Rattle.data_asm.specs.DataFields.{value_at, first_text, as_number}
 use Rattle.data_asm.specs.Cells.{specifier, data_cells, cells_of, cells_after, static_cells_of}
-use Rattle.data_asm.specs.Faults.{statement_fits, is_formatted, data_rule, data_faults}
+use Rattle.data_asm.specs.DataFaults.{statement_fits, is_formatted, data_rule, data_faults}
 use Rattle.data_asm.proofs.TextLemmas.{cells_count}
 
 text_same : (operands : List Operand) → length (first_text operands) ≡ text_length operands

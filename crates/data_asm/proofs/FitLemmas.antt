@@ -19,10 +19,10 @@ use Rattle.sil_model.specs.declared.limits.Limits.{Limits}
 use Rattle.sil_model.specs.Memory.{FitsCell}
 use Rattle.sil_model.specs.Start.{zero_cell}
 use Rattle.data_asm.specs.declared.fields.Fields.{Fields}
-use Rattle.data_asm.specs.Texts.{text_cells}
-use Rattle.data_asm.specs.Fields.{operand_value, value_at, first_text, first_fields, second_fields, is_within, fit, as_number, descriptor}
+use Rattle.data_asm.specs.CharacterCells.{text_cells}
+use Rattle.data_asm.specs.DataFields.{operand_value, value_at, first_text, first_fields, second_fields, is_within, fit, as_number, descriptor}
 use Rattle.data_asm.specs.Cells.{specifier, data_cells}
-use Rattle.data_asm.specs.Faults.{data_fits}
+use Rattle.data_asm.specs.DataFaults.{data_fits}
 use Rattle.data_asm.proofs.TextLemmas.{texts_fit, blanks_fit}
 
 both : (a b : Bool) → (a && b) ≡ true → (a ≡ true) × (b ≡ true)

@@ -9,7 +9,7 @@ use Rattle.std.proofs.lemmas.List.{drop-replicate, length-replicate, length-drop
 use Rattle.std.proofs.lemmas.List.Elements.{All-nil, All-cons, All-append, All-replicate, All-take, All-drop}
 use Rattle.sil_model.specs.declared.limits.Limits.{Limits}
 use Rattle.sil_model.specs.Memory.{FitsChars, FitsCell}
-use Rattle.data_asm.specs.Texts.{characters, cells_of_text, text_cells, blank_cells}
+use Rattle.data_asm.specs.CharacterCells.{characters, cells_of_text, text_cells, blank_cells}
 
 abbrev zeros : ℕ → List ℕ
 zeros n = replicate n 0

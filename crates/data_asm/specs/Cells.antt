@@ -11,8 +11,8 @@ use Rattle.sil_symbols.specs.declared.stmt.Stmt.{Stmt}
 use Rattle.sil_symbols.specs.Symbols.{value_of}
 use Rattle.sil_base.specs.declared.places.TheConstants.{FIRST_CELL}
 use Rattle.sil_model.specs.Start.{zero_cell}
-use Rattle.data_asm.specs.Texts.{text_cells, blank_cells}
-use Rattle.data_asm.specs.Fields.{as_number, value_at, first_text, first_fields, second_fields, descriptor}
+use Rattle.data_asm.specs.CharacterCells.{text_cells, blank_cells}
+use Rattle.data_asm.specs.DataFields.{as_number, value_at, first_text, first_fields, second_fields, descriptor}
 
 -- the specifier of a string of this length, whose characters begin at this address
 abbrev pub specifier : ℤ → ℕ → List Cell

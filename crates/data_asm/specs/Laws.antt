@@ -5,7 +5,7 @@ use Rattle.layout_params.specs.Parameters.{Parameters}
 use Rattle.sil_base.specs.declared.places.TheConstants.{FIRST_CELL}
 use Rattle.sil_symbols.specs.declared.stmt.Stmt.{Stmt}
 use Rattle.sil_symbols.specs.Laws.{cell_count}
-use Rattle.sil_symbols.specs.Rules.{faults_of}
+use Rattle.sil_symbols.specs.SymbolRules.{faults_of}
 use Rattle.sil_symbols.specs.Symbols.{value_of}
 use Rattle.data_asm.specs.Cells.{data_cells, static_cells_of}
 

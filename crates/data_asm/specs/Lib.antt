@@ -1,5 +1,5 @@
-pub mod Texts
-pub mod Fields
+pub mod CharacterCells
+pub mod DataFields
 pub mod Cells
-pub mod Faults
+pub mod DataFaults
 pub mod Laws

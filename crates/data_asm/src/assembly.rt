@@ -5,12 +5,12 @@ ghost use Rattle.sil_base.specs.Faults.{IsStopFor};
 ghost use Rattle.sil_model.specs.Memory.{FitsCell};
 ghost use Rattle.sil_model.specs.Start.{limits_of, zero_cell};
 ghost use Rattle.sil_symbols.specs.Resolved.{Resolves};
-ghost use Rattle.sil_symbols.specs.Rules.{faults_of};
+ghost use Rattle.sil_symbols.specs.SymbolRules.{faults_of};
 ghost use Rattle.sil_symbols.specs.Symbols.{value_of, extent, IsWithinLimits};
-ghost use Rattle.data_asm.specs.Fields.{fit, descriptor};
+ghost use Rattle.data_asm.specs.DataFields.{fit, descriptor};
 ghost use Rattle.data_asm.specs.Cells.{specifier, data_cells, cells_of, static_cells_of};
-ghost use Rattle.data_asm.specs.Texts.{text_cells};
-ghost use Rattle.data_asm.specs.Faults.{statement_fits, is_formatted, data_faults};
+ghost use Rattle.data_asm.specs.CharacterCells.{text_cells};
+ghost use Rattle.data_asm.specs.DataFaults.{statement_fits, is_formatted, data_faults};
 
 use crate::faults::data_faults;
 use crate::fields::{Fields, first_fields, first_number, first_text, second_fields};

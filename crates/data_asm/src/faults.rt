@@ -1,7 +1,7 @@
 // The faults of data.
 ghost use Rattle.std.specs.Prelude.{◌≡◌, IfOk};
 ghost use Rattle.sil_symbols.specs.Resolved.{Resolves};
-ghost use Rattle.data_asm.specs.Faults.{statement_fits, is_formatted, data_rule, data_faults};
+ghost use Rattle.data_asm.specs.DataFaults.{statement_fits, is_formatted, data_rule, data_faults};
 
 use crate::fields::{first_fields, first_text, second_fields};
 use crate::source::ResolvedSource;
@@ -58,7 +58,7 @@ fn data_rule(
 }
 
 /// The faults of the data of a source.
-#[tactic(auto, unfolding(crate::specs::Faults::data_faults))]
+#[tactic(auto, unfolding(crate::specs::DataFaults::data_faults))]
 pub(crate) fn data_faults(
     alloc: Global,
     source: &ResolvedSource<'_>,

@@ -2,7 +2,7 @@
 ghost use Rattle.std.specs.Prelude.{◌≡◌, ◌<◌, ◌^◌, true};
 ghost use Rattle.sil_symbols.specs.Resolved.{Resolves};
 ghost use Rattle.sil_symbols.specs.Symbols.{value_of};
-ghost use Rattle.data_asm.specs.Fields.{value_at, first_text, first_fields, second_fields, is_within, fit, as_number, descriptor};
+ghost use Rattle.data_asm.specs.DataFields.{value_at, first_text, first_fields, second_fields, is_within, fit, as_number, descriptor};
 
 use crate::source::ResolvedSource;
 use layout_params::{Cell, Descr};

@@ -1,6 +1,6 @@
 // Characters in cells.
 ghost use Rattle.std.specs.Prelude.{◌≡◌, ◌≤◌, ◌++◌, length, take, drop, OnOk, replicate};
-ghost use Rattle.data_asm.specs.Texts.{characters, text_cells, blank_cells};
+ghost use Rattle.data_asm.specs.CharacterCells.{characters, text_cells, blank_cells};
 
 use layout_params::Cell;
 use std::alloc::AllocError;

@@ -7,7 +7,7 @@ use Rattle.std.specs.Prelude.{ℤ, pos, FitsSigned, ◌+ℤ◌, bit_and, bit_or}
 use Rattle.std.specs.Int.{w64}
 use Rattle.sil_model.specs.DescriptorClauses.{bits_without}
 use Rattle.sil_model.specs.Integers.{◌⊞◌, ◌⊟◌, within, wrapped_sum, wrapped_difference}
-use Rattle.sil_micro.specs.Words.{bits_of_both, bits_of_either}
+use Rattle.sil_micro.specs.MicroWords.{bits_of_both, bits_of_either}
 
 -- a sum that wraps fits in a V field no more than the sum itself
 pub within_sum : (limit v : ℕ) (n : ℤ) → limit < 2 ^ 48 → v < 2 ^ 48 → FitsSigned w64 n → within limit (pos v ⊞ n) ≡ within limit (pos v +ℤ n)

@@ -1,6 +1,6 @@
 // The operands of a statement, by the shape of its macro.
 ghost use Rattle.std.specs.Prelude.{◌≡◌, ◌∷◌, [], IsTrue};
-ghost use Rattle.sil_macros.specs.Places.{D, F, N};
+ghost use Rattle.sil_macros.specs.OperandPlaces.{D, F, N};
 ghost use Rattle.sil_model.specs.Fits.{fit};
 ghost use Rattle.sil_model.specs.declared.program.Arg.TheVariants.{Flag, Number, Place};
 

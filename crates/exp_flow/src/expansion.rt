@@ -1,6 +1,6 @@
 // The expansion of a statement whose macro is one of flow.
 ghost use Rattle.std.specs.Prelude.{◌≡◌, ◌*◌, ◌<◌, ◌≤◌, OnOk, IsTrue, length};
-ghost use Rattle.sil_macros.specs.Rows.{row};
+ghost use Rattle.sil_macros.specs.MacroRows.{row};
 ghost use Rattle.sil_model.specs.Costs.{visits};
 ghost use Rattle.sil_model.specs.Fits.{fit};
 ghost use Rattle.sil_model.specs.Table.{clause};

@@ -7,8 +7,8 @@ use Rattle.layout_params.specs.Parameters.{Settings, AreLegalSettings, settings_
 use Rattle.image_file.specs.declared.counts.Counts.{Counts}
 use Rattle.image_file.specs.Image.{Image, StatementEntry}
 use Rattle.image_file.specs.Spelling.{FitAll, numbers_in, mark_part, version_part, settings_part, counts_part, counts_list, entry_part}
-use Rattle.image_file.specs.Grammar.{Part, MarkPart, VersionPart, SettingsPart, CountsPart, LimitsPart, StatementsPart, WordsPart, ConstantsPart, CellsPart, KindsPart, TablesPart, EndPart, AreWithin, Begins, Stand}
-use Rattle.image_file.specs.Reading.{FitEntries}
+use Rattle.image_file.specs.ImageGrammar.{Part, MarkPart, VersionPart, SettingsPart, CountsPart, LimitsPart, StatementsPart, WordsPart, ConstantsPart, CellsPart, KindsPart, TablesPart, EndPart, AreWithin, Begins, Stand}
+use Rattle.image_file.specs.ImageReading.{FitEntries}
 use Rattle.image_file.proofs.Parts.{each_place, same_parts, same_front, same_rest, length-numbers_in, same_numbers}
 use Rattle.image_file.proofs.SpelledEntries.{length-entries, length-entry_part, same_entry}
 use Rattle.image_file.proofs.Fitting.{parameters_fit, words_fit, entries_fit_bytes}

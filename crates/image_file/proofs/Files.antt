@@ -12,8 +12,8 @@ use Rattle.image_file.specs.declared.stop.ImageStop.TheVariants.{Part as PartSto
 use Rattle.image_file.specs.declared.counts.Counts.{Counts}
 use Rattle.image_file.specs.Image.{Image, IsImage, StatementEntry}
 use Rattle.image_file.specs.Spelling.{FitAll, numbers_in, mark_part, version_part, settings_part, counts_part, counts_list, counts_of, entry_part, spelling}
-use Rattle.image_file.specs.Grammar.{Part, EndPart, AreWithin, Begins, Stand, head_parts, body_parts, parts, IsImageFile, BeginSo, IsFirstWrong, IsRefused}
-use Rattle.image_file.specs.Reading.{StopsAt}
+use Rattle.image_file.specs.ImageGrammar.{Part, EndPart, AreWithin, Begins, Stand, head_parts, body_parts, parts, IsImageFile, BeginSo, IsFirstWrong, IsRefused}
+use Rattle.image_file.specs.ImageReading.{StopsAt}
 use Rattle.image_file.proofs.Agreement.{counts_from, Known, AllAgree, AreHead, head_agrees, body_agrees}
 
 -- ---- some parts, and others

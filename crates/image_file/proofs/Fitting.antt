@@ -6,7 +6,7 @@ use Rattle.layout_params.specs.Parameters.{Settings, AreLegalSettings, AreBits, 
 use Rattle.layout_params.proofs.LegalLayouts.{IsLegal, legal}
 use Rattle.image_file.specs.Image.{StatementEntry, places_rise}
 use Rattle.image_file.specs.Spelling.{FitAll}
-use Rattle.image_file.specs.Reading.{FitEntries}
+use Rattle.image_file.specs.ImageReading.{FitEntries}
 
 FitAll-append : (n : ℕ) (xs ys : List ℕ) → FitAll n xs → FitAll n ys → FitAll n (xs ++ ys)
 FitAll-append n [] ys h k = k

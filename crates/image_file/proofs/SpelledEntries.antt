@@ -9,7 +9,7 @@ use Rattle.sil_base.specs.Bytes.{number, low_bytes, piece, AreBytes}
 use Rattle.sil_base.proofs.Numbers.{number-low_bytes, AreBytes-piece}
 use Rattle.image_file.specs.Image.{StatementEntry, entry_of}
 use Rattle.image_file.specs.Spelling.{entry_part}
-use Rattle.image_file.specs.Reading.{FitEntries}
+use Rattle.image_file.specs.ImageReading.{FitEntries}
 use Rattle.image_file.proofs.Fitting.{FitEntries-append}
 use Rattle.image_file.proofs.Parts.{same_front, same_rest, low_again}
 

@@ -2,8 +2,8 @@
 use Rattle.std.proofs.Common.{ℕ, List, sym, subst}
 use Rattle.image_file.specs.declared.stop.ImageStop.{ImageStop}
 use Rattle.image_file.specs.declared.stop.ImageStop.TheVariants.{Part as PartStop, Memory}
-use Rattle.image_file.specs.Grammar.{IsFirstWrong, IsRefused}
-use Rattle.image_file.specs.Reading.{StopsAt}
+use Rattle.image_file.specs.ImageGrammar.{IsFirstWrong, IsRefused}
+use Rattle.image_file.specs.ImageReading.{StopsAt}
 
 pub stops_as : (e : ImageStop) (n : ℕ) (P Q : Type 0) → StopsAt e n P → (P → Q) → StopsAt e n Q
 stops_as (PartStop k) n P Q h f = (h.0, f h.1)

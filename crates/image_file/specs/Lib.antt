@@ -1,5 +1,6 @@
-pub mod Grammar
+pub mod ImageGrammar
+pub mod TableEntries
 pub mod Image
-pub mod Reading
+pub mod ImageReading
 pub mod Spelling
 pub mod Version

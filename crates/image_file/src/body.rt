@@ -2,9 +2,9 @@
 ghost use Rattle.std.specs.Prelude.{◌≡◌, ◌++◌, ◌*◌, ◌≤◌, [], List, ℕ, take, drop, IfOk, IfErr, MatchResult};
 ghost use Rattle.layout_params.specs.Parameters as parameters;
 ghost use Rattle.layout_params.specs.Parameters.{AreLegalSettings};
-ghost use Rattle.image_file.specs.Grammar.{Begins, Stand, StatementsPart, WordsPart, TablesPart, head_parts, parts, AreWithin, IsImageFile, IsRefused};
+ghost use Rattle.image_file.specs.ImageGrammar.{Begins, Stand, StatementsPart, WordsPart, TablesPart, head_parts, parts, AreWithin, IsImageFile, IsRefused};
 ghost use Rattle.image_file.specs.Image.{Image, image_of};
-ghost use Rattle.image_file.specs.Reading.{StopsAt, Misses};
+ghost use Rattle.image_file.specs.ImageReading.{StopsAt, Misses};
 
 use crate::counts::Counts;
 use crate::cursor::{cut, read_bytes, read_words};

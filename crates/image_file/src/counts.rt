@@ -1,7 +1,7 @@
 // How many there are of each part.
 ghost use Rattle.std.specs.Prelude.{◌≡◌, ◌*◌, ◌↔◌, IsTrue};
 ghost use Rattle.image_file.specs.Spelling.{counts_list};
-ghost use Rattle.image_file.specs.Grammar.{AreWithin};
+ghost use Rattle.image_file.specs.ImageGrammar.{AreWithin};
 
 use crate::rules::has_room;
 use layout_params::Settings;

@@ -1,7 +1,7 @@
 // The parts of bytes, one after another.
 ghost use Rattle.std.specs.Prelude.{◌≡◌, ◌*◌, ◌^◌, ◌<◌, ◌++◌, All, length, IfOk, IfErr, MatchResult};
 ghost use Rattle.image_file.specs.Spelling.{FitAll, numbers_in};
-ghost use Rattle.image_file.specs.Reading.{StopsAt};
+ghost use Rattle.image_file.specs.ImageReading.{StopsAt};
 
 use crate::stop::ImageStop;
 use byteorder::{ByteOrder, LittleEndian};

@@ -3,7 +3,7 @@ ghost use Rattle.std.specs.Prelude.{◌≡◌, ◌++◌, ◌*◌, ◌^◌, ◌<�
 ghost use Rattle.std.specs.List.{flat_map};
 ghost use Rattle.image_file.specs.Image.{StatementEntry, entry_of};
 ghost use Rattle.image_file.specs.Spelling.{entry_part};
-ghost use Rattle.image_file.specs.Reading.{FitEntries, StopsAt};
+ghost use Rattle.image_file.specs.ImageReading.{FitEntries, StopsAt};
 
 use crate::numbers::{bytes_16, bytes_32, bytes_64, number_16, number_32, number_64};
 use crate::stop::ImageStop;

@@ -2,9 +2,9 @@
 ghost use Rattle.std.specs.Prelude.{◌≡◌, ◌++◌, [], List, ℕ, MatchResult};
 ghost use Rattle.layout_params.specs.Parameters as parameters;
 ghost use Rattle.layout_params.specs.Parameters.{AreLegalSettings};
-ghost use Rattle.image_file.specs.Grammar.{Stand, head_parts, IsRefused};
+ghost use Rattle.image_file.specs.ImageGrammar.{Stand, head_parts, IsRefused};
 ghost use Rattle.image_file.specs.Image.{image_of};
-ghost use Rattle.image_file.specs.Reading.{StopsAt};
+ghost use Rattle.image_file.specs.ImageReading.{StopsAt};
 ghost use Rattle.image_file.specs.Spelling.{mark_part, version_part, settings_part, counts_part, counts_list, FitAll};
 
 use crate::counts::Counts;

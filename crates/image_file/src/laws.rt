@@ -1,6 +1,6 @@
 // Laws of the grammar of image files.
 ghost use Rattle.std.specs.Prelude.{◌≡◌, ◌↔◌, ◌≤◌, ◌++◌, [], ℕ, List};
-ghost use Rattle.image_file.specs.Grammar.{IsImageFile, IsFirstWrong};
+ghost use Rattle.image_file.specs.ImageGrammar.{IsImageFile, IsFirstWrong};
 ghost use Rattle.image_file.specs.Image.{Image, IsImage};
 ghost use Rattle.image_file.specs.Spelling.{spelling};
 

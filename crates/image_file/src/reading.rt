@@ -1,8 +1,8 @@
 // The image of a file's bytes.
 ghost use Rattle.std.specs.Prelude.{◌≡◌, ℕ, IsErrAnd, MatchResult};
-ghost use Rattle.image_file.specs.Grammar.{IsImageFile, IsFirstWrong, IsRefused};
+ghost use Rattle.image_file.specs.ImageGrammar.{IsImageFile, IsFirstWrong, IsRefused};
 ghost use Rattle.image_file.specs.Image.{Image, IsImage};
-ghost use Rattle.image_file.specs.Reading.{StopsAt};
+ghost use Rattle.image_file.specs.ImageReading.{StopsAt};
 ghost use Rattle.image_file.specs.Spelling.{spelling};
 
 use crate::body::read_body;

@@ -1,6 +1,6 @@
 // What another version of the file would change: its number, and the bytes of the kinds.
 ghost use Rattle.std.specs.Prelude.{◌≡◌, ◌≤◌, ◌++◌, ℕ, List, All, length, IfOk, MatchResult};
-ghost use Rattle.image_file.specs.Reading.{StopsAt};
+ghost use Rattle.image_file.specs.ImageReading.{StopsAt};
 ghost use Rattle.image_file.specs.Version.{kinds_part};
 
 use crate::cursor::read_bytes;

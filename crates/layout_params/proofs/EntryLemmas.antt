@@ -3,10 +3,10 @@ use Rattle.std.proofs.Common.{◌≡◌, ◌∙◌, ℕ, ◌+◌, ◌<◌, ◌�
 use Rattle.std.proofs.lemmas.List.{map-append}
 use Rattle.layout_params.specs.declared.entries.Entry.{Entry as HeldEntry}
 use Rattle.sil_base.specs.Names.{is_word, texts_of}
-use Rattle.layout_params.specs.Lines.{Entry, Value, parts_of, entries_from}
+use Rattle.layout_params.specs.ParameterLines.{Entry, Value, parts_of, entries_from}
 use Rattle.layout_params.specs.Entries.{entry_named}
-use Rattle.layout_params.specs.Faults.{name_fault, is_new_name, fault}
-use Rattle.layout_params.specs.Held.{entry_held, entries_held}
+use Rattle.layout_params.specs.ParameterFaults.{name_fault, is_new_name, fault}
+use Rattle.layout_params.specs.HeldEntries.{entry_held, entries_held}
 
 -- ---- a search by name
 

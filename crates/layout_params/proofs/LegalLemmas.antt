@@ -7,7 +7,7 @@ use Rattle.std.proofs.lemmas.List.Sums.{AllPass-from_list_all, list_all-from_All
 use Rattle.sil_base.specs.declared.line.Fault.{Fault}
 use Rattle.layout_params.specs.Sizes.{Sizes, is_legal, descr_fits, field_fits, f_width_fits, v_width_fits, widths_fit, fields_fit, fields_apart}
 use Rattle.layout_params.specs.Parameters.{Settings, Parameters, is_bit_below, AreBits, IsPrinted, AreLegal}
-use Rattle.layout_params.specs.Faults.{or_next, unless_kept, descr_fault, a_fault, f_fault, v_fault, shared_fault, layout_fault, is_new_flag, flag_fault, is_within, count_fault, unit_fault, is_date, date_fault, value_fault}
+use Rattle.layout_params.specs.ParameterFaults.{or_next, unless_kept, descr_fault, a_fault, f_fault, v_fault, shared_fault, layout_fault, is_new_flag, flag_fault, is_within, count_fault, unit_fault, is_date, date_fault, value_fault}
 
 -- ---- tests
 

@@ -6,7 +6,7 @@ use Rattle.std.proofs.Math.Nat.{pow-le-pow_right, pow-suc}
 use Rattle.sil_base.specs.Names.{is_word}
 use Rattle.layout_params.specs.Sizes.{Sizes, is_legal, value_limit}
 use Rattle.layout_params.specs.Parameters.{Parameters, AreLegal, is_bit_below}
-use Rattle.layout_params.specs.Symbols.{symbol_names, symbol_values, symbol_in}
+use Rattle.layout_params.specs.ParameterSymbols.{symbol_names, symbol_values, symbol_in}
 use Rattle.layout_params.proofs.LegalLayouts.{legal, value_limit_below}
 
 abbrev EachBelow : List ℕ → Type 0

@@ -1,7 +1,7 @@
 -- The values of a parameter file.
 use Rattle.std.specs.Prelude.{ℕ, List, [], ◌∷◌, codes, find, Option, Some, None}
 use Rattle.sil_base.specs.Names.{is_word}
-use Rattle.layout_params.specs.Lines.{Value, Number, Date, Entry, lines_of, entries_from}
+use Rattle.layout_params.specs.ParameterLines.{Value, Number, Date, Entry, lines_of, entries_from}
 use Rattle.layout_params.specs.Parameters.{Parameters}
 
 -- the names of the parameters

@@ -1,7 +1,7 @@
 -- Legal parameters are those without a fault.
 use Rattle.std.specs.Prelude.{◌≡◌, ℕ, List, None}
 use Rattle.layout_params.specs.Parameters.{Parameters, AreLegal}
-use Rattle.layout_params.specs.Faults.{value_fault}
+use Rattle.layout_params.specs.ParameterFaults.{value_fault}
 
 -- legal values break no rule on values, whatever their lines are
 abbrev pub LegalHaveNoFault : Type 0

@@ -6,10 +6,10 @@ pub mod Parameters
 pub mod Areas
 pub mod SettingsView
 pub mod ParamsView
-pub mod Lines
+pub mod ParameterLines
 pub mod Entries
-pub mod Faults
-pub mod Symbols
-pub mod Held
+pub mod ParameterFaults
+pub mod ParameterSymbols
+pub mod HeldEntries
 pub mod Stops
 pub mod Legal

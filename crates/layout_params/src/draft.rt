@@ -2,7 +2,7 @@
 ghost use Rattle.std.specs.Prelude.{◌≡◌};
 ghost use Rattle.layout_params.specs.Views.{sizes_of};
 ghost use Rattle.layout_params.specs.Entries.{parameters_in};
-ghost use Rattle.layout_params.specs.Held.{entries_held, drafted};
+ghost use Rattle.layout_params.specs.HeldEntries.{entries_held, drafted};
 
 use crate::candidate::Candidate;
 use crate::entries::{Entry, date_named, number_named};

@@ -1,11 +1,11 @@
 // What the lines of a parameter file give.
 ghost use Rattle.std.specs.Prelude.{◌≡◌, ◌+◌, ◌≤◌, ◌<◌, [], length, position, None, is_some, IfSome, IfOk, IfErr, option_map};
 ghost use Rattle.std.specs.List.{list_all};
-ghost use Rattle.layout_params.specs.Lines.{value_of, parts_of, breaks_form, entries_from};
+ghost use Rattle.layout_params.specs.ParameterLines.{value_of, parts_of, breaks_form, entries_from};
 ghost use Rattle.layout_params.specs.Entries.{entry_named, line_named, number_named, date_named};
-ghost use Rattle.layout_params.specs.Faults.{form_fault, is_parameter, is_new_name, name_fault, missing_fault};
+ghost use Rattle.layout_params.specs.ParameterFaults.{form_fault, is_parameter, is_new_name, name_fault, missing_fault};
 ghost use Rattle.sil_base.specs.Names.{texts_of};
-ghost use Rattle.layout_params.specs.Held.{value_held, parts_held, entry_held, entries_held};
+ghost use Rattle.layout_params.specs.HeldEntries.{value_held, parts_held, entry_held, entries_held};
 ghost use Rattle.layout_params.specs.Stops.{IsStopFor};
 
 use crate::faults::fault;

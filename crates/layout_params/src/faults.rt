@@ -5,8 +5,8 @@ ghost use Rattle.layout_params.specs.Sizes.{f_width_fits};
 ghost use Rattle.layout_params.specs.Views.{sizes_of};
 ghost use Rattle.layout_params.specs.Parameters.{is_bit_below};
 ghost use Rattle.layout_params.specs.Entries.{line_named};
-ghost use Rattle.layout_params.specs.Faults.{fault, or_next, unless_kept, f_fault, v_fault, layout_fault, is_new_flag, flag_fault, is_within, count_fault, unit_fault, is_date, value_fault};
-ghost use Rattle.layout_params.specs.Held.{entries_held, drafted};
+ghost use Rattle.layout_params.specs.ParameterFaults.{fault, or_next, unless_kept, f_fault, v_fault, layout_fault, is_new_flag, flag_fault, is_within, count_fault, unit_fault, is_date, value_fault};
+ghost use Rattle.layout_params.specs.HeldEntries.{entries_held, drafted};
 
 use crate::candidate::Candidate;
 use crate::draft::Draft;

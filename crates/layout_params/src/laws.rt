@@ -3,7 +3,7 @@
 ghost use Rattle.std.specs.Prelude.{◌≡◌, None};
 ghost use Rattle.layout_params.specs.Parameters.{standard};
 ghost use Rattle.layout_params.specs.Entries.{values_of};
-ghost use Rattle.layout_params.specs.Faults.{parameter_fault};
+ghost use Rattle.layout_params.specs.ParameterFaults.{parameter_fault};
 ghost use Rattle.layout_params.specs.Legal.{LegalHaveNoFault, FaultlessAreLegal};
 ghost use Rattle.layout_params.specs.Laws.{PackingsArePacked, PackingsHaveSize, PackingsAreBytes, PackedIsRead, WritesOfA, WritesOfF, WritesOfV, FieldsAreRead, FreeBytesAreFree};
 

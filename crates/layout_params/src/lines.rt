@@ -2,7 +2,7 @@
 ghost use Rattle.std.specs.Prelude.{◌≡◌, ◌≤◌, vec_len, length, IfOk, if◌then◌else◌, Some, None};
 ghost use Rattle.std.specs.Str.Parse.{digits_value};
 ghost use Rattle.sil_base.specs.Names.{texts_of};
-ghost use Rattle.layout_params.specs.Lines.{lines_of, is_skipped, is_value};
+ghost use Rattle.layout_params.specs.ParameterLines.{lines_of, is_skipped, is_value};
 
 use sil_base::{cut_line, digits_value, is_number, without_end};
 use std::alloc::{AllocError, Global};

@@ -3,7 +3,7 @@
 ghost use Rattle.std.specs.Prelude.{◌≡◌, ◌<◌, ◌≤◌, ◌^◌, [], ◌∷◌};
 ghost use Rattle.layout_params.specs.Sizes.{flag_limit, value_limit};
 ghost use Rattle.layout_params.specs.Parameters.{Parameters, AreLegal};
-ghost use Rattle.layout_params.specs.Symbols.{symbol_values, symbol_of};
+ghost use Rattle.layout_params.specs.ParameterSymbols.{symbol_values, symbol_of};
 
 use crate::layout::Layout;
 use crate::numbers::Numbers;

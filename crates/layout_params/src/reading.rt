@@ -2,8 +2,8 @@
 ghost use Rattle.std.specs.Prelude.{◌≡◌, ◌≤◌, length, None, IfOk, IfErr};
 ghost use Rattle.layout_params.specs.Parameters.{AreLegal, standard};
 ghost use Rattle.layout_params.specs.Entries.{values_of};
-ghost use Rattle.layout_params.specs.Faults.{parameter_fault, value_fault};
-ghost use Rattle.layout_params.specs.Held.{drafted};
+ghost use Rattle.layout_params.specs.ParameterFaults.{parameter_fault, value_fault};
+ghost use Rattle.layout_params.specs.HeldEntries.{drafted};
 ghost use Rattle.layout_params.specs.Stops.{IsStopFor};
 
 use crate::draft::{Draft, draft_of};

@@ -1,6 +1,6 @@
 // The parameters as symbols of a source.
 ghost use Rattle.std.specs.Prelude.{◌≡◌};
-ghost use Rattle.layout_params.specs.Symbols.{symbol_in};
+ghost use Rattle.layout_params.specs.ParameterSymbols.{symbol_in};
 
 use sil_base::index_of;
 use std::marker::Model;

@@ -15,11 +15,11 @@ use Rattle.sil_model.specs.WellFormed.{IsWellFormed}
 use Rattle.sil_micro.specs.Codes.{MicroCode, place_of, setting_of}
 use Rattle.sil_micro.specs.Expands.{Meets, at, cost_at, site_at}
 use Rattle.sil_micro.specs.Laws.{Follows, LawOfMeeting, LawOnWays, Leads, way_met}
-use Rattle.sil_micro.specs.Runs.{Outcome, At, at_statement}
-use Rattle.sil_micro.specs.Runs as runs
-use Rattle.sil_micro.specs.States.{Setting, Micro}
-use Rattle.sil_micro.specs.Ways.{Way, Came, way}
-use Rattle.sil_micro.specs.Ways as ways
+use Rattle.sil_micro.specs.MicroRuns.{Outcome, At, at_statement}
+use Rattle.sil_micro.specs.MicroRuns as runs
+use Rattle.sil_micro.specs.MicroStates.{Setting, Micro}
+use Rattle.sil_micro.specs.MicroWays.{Way, Came, way}
+use Rattle.sil_micro.specs.MicroWays as ways
 use Rattle.macro_expand.specs.Expanded.{HasPiece, IsExpansion}
 use Rattle.macro_expand.specs.Steps.{MakesStep}
 use Rattle.macro_expand.proofs.Running.{can_begin, entered, met_here, place_here, place_there}

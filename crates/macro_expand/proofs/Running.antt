@@ -5,7 +5,7 @@ use Rattle.std.proofs.lemmas.Option.{slice_get_within}
 use Rattle.std.specs.Prelude.{slice_get, nat_lt, if◌then◌else◌}
 use Rattle.sil_base.specs.declared.limits.TheConstants.{MAX_STEPS}
 use Rattle.layout_params.specs.Parameters.{Parameters}
-use Rattle.unit_io.specs.Runs.{Run}
+use Rattle.unit_io.specs.RunEnds.{Run}
 use Rattle.unit_io.specs.Tapes.{Tapes}
 use Rattle.sil_model.specs.declared.end.End.{End}
 use Rattle.sil_model.specs.declared.end.End.TheVariants as ends
@@ -25,11 +25,11 @@ use Rattle.sil_micro.specs.Codes.{MicroCode, entry_of, place_of, setting_of}
 use Rattle.sil_micro.specs.Expands.{CanBegin, Meets, at, cost_at, site_at}
 use Rattle.sil_micro.specs.Laws.{Follows, LawOfMeeting, LawOnWays, Leads, way_met}
 use Rattle.sil_micro.specs.Operations.{begin_if}
-use Rattle.sil_micro.specs.Runs.{Outcome, RunsTo, and_on, at_op, at_statement, follow, met, met_after, met_by, run, step}
-use Rattle.sil_micro.specs.Runs as runs
-use Rattle.sil_micro.specs.States.{Setting, Micro, first_micro}
-use Rattle.sil_micro.specs.Ways.{Way, Came, way}
-use Rattle.sil_micro.specs.Ways as ways
+use Rattle.sil_micro.specs.MicroRuns.{Outcome, RunsTo, and_on, at_op, at_statement, follow, met, met_after, met_by, run, step}
+use Rattle.sil_micro.specs.MicroRuns as runs
+use Rattle.sil_micro.specs.MicroStates.{Setting, Micro, first_micro}
+use Rattle.sil_micro.specs.MicroWays.{Way, Came, way}
+use Rattle.sil_micro.specs.MicroWays as ways
 use Rattle.sil_micro.proofs.Making.{by_test}
 use Rattle.sil_micro.proofs.Ways.{slice_get_none}
 use Rattle.macro_expand.specs.Expanded.{HasPiece, IsExpansion}

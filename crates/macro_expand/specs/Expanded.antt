@@ -15,7 +15,7 @@ use Rattle.sil_micro.specs.declared.op.Op.{Op}
 use Rattle.sil_micro.specs.Codes.{MicroCode, IsWhole, entry_of, setting_of}
 use Rattle.sil_micro.specs.Expands.{Does, IsPiece}
 use Rattle.sil_micro.specs.Laws.{StandsAt}
-use Rattle.sil_micro.specs.Runs.{RunsTo}
+use Rattle.sil_micro.specs.MicroRuns.{RunsTo}
 use Rattle.exp_descr.specs.Group.{is_descr}
 use Rattle.exp_flow.specs.Group.{is_flow}
 

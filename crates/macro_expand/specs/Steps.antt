@@ -11,8 +11,8 @@ use Rattle.sil_model.specs.Valid.{IsValid}
 use Rattle.sil_micro.specs.Codes.{MicroCode, place_of, setting_of}
 use Rattle.sil_micro.specs.Expands.{at}
 use Rattle.sil_micro.specs.Laws.{Leads}
-use Rattle.sil_micro.specs.Runs.{Outcome, At, Ended}
-use Rattle.sil_micro.specs.States.{Setting, Micro}
+use Rattle.sil_micro.specs.MicroRuns.{Outcome, At, Ended}
+use Rattle.sil_micro.specs.MicroStates.{Setting, Micro}
 
 -- the code comes to the place of the step's statement in the step's state, or ends as the step ends, and what it ran since the statement began weighs no more than this
 abbrev pub Makes : MicroCode → Outcome → Step → ℕ → Type 0

@@ -1,6 +1,6 @@
 // The expansion of all statements of a program.
 ghost use Rattle.std.specs.Prelude.{◌≡◌, ◌*◌, ◌<◌, ◌≤◌, IfOk, OnOk, IsTrue, length, map};
-ghost use Rattle.sil_macros.specs.Rows.{row};
+ghost use Rattle.sil_macros.specs.MacroRows.{row};
 ghost use Rattle.sil_model.specs.Costs.{visits};
 ghost use Rattle.sil_model.specs.Fits.{fit};
 ghost use Rattle.sil_model.specs.Table.{clause};

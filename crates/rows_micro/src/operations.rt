@@ -5,12 +5,12 @@ ghost use Rattle.sil_micro.specs.declared.op.Area.TheVariants as areas;
 ghost use Rattle.sil_micro.specs.declared.op.Arith.TheVariants.{Div, Rem};
 ghost use Rattle.sil_micro.specs.declared.op.Op.TheVariants.{LoadWord, StoreField, StoreWord};
 ghost use Rattle.sil_micro.specs.Operations.{Effect, Stuck, act, undefined};
-ghost use Rattle.sil_micro.specs.States.{Micro, Setting};
-ghost use Rattle.sil_micro.specs.Words.{computed};
+ghost use Rattle.sil_micro.specs.MicroStates.{Micro, Setting};
+ghost use Rattle.sil_micro.specs.MicroWords.{computed};
 
 /// -2^63 divided by -1 is -2^63 with nothing left, and by 0 the quotient is -1 and the remainder the
 /// dividend.
-#[tactic(auto, unfolding(sil_micro::specs::Words::quotient, sil_micro::specs::Words::remainder))]
+#[tactic(auto, unfolding(sil_micro::specs::MicroWords::quotient, sil_micro::specs::MicroWords::remainder))]
 pub fn division_at_its_edges()
     ensures least { computed Div (negsuc 9223372036854775807) (negsuc 0) ≡ negsuc 9223372036854775807 }
     ensures nothing_left { computed Rem (negsuc 9223372036854775807) (negsuc 0) ≡ pos 0 }

@@ -1,6 +1,6 @@
 // Data statements and their cells.
 ghost use Rattle.std.specs.Prelude.{◌≡◌, IfOk, false};
-ghost use Rattle.sil_symbols.specs.Parts.{part_of, is_end};
+ghost use Rattle.sil_symbols.specs.StatementParts.{part_of, is_end};
 
 use crate::texts::{WIDE_PARAMS, text_of};
 use data_asm::{DataStop, assemble};

@@ -8,9 +8,9 @@ use Rattle.rv_isa.specs.declared.instr.UOp.TheVariants.{Lui}
 use Rattle.rv_isa.specs.declared.instr.Instr.{Instr}
 use Rattle.rv_isa.specs.declared.instr.Instr.TheVariants.{R, I, S, U}
 use Rattle.image_file.specs.Image.{Image}
-use Rattle.rv_emulate.specs.Memory.{Memory, loaded, stored}
-use Rattle.rv_emulate.specs.States.{State, Outcome, On}
-use Rattle.rv_emulate.specs.Steps.{extended, sum64}
+use Rattle.rv_emulate.specs.EmulatorMemory.{Memory, loaded, stored}
+use Rattle.rv_emulate.specs.EmulatorStates.{State, Outcome, On}
+use Rattle.rv_emulate.specs.EmulatorSteps.{extended, sum64}
 use Rattle.rv_emit.specs.Ways.{Comes}
 use Rattle.rv_emit.specs.Code.{upper_of, lower_of, add_part}
 use Rattle.rv_emit.proofs.WideNumbers.{wide_list, made, made_file, made_is, made_other, makes}

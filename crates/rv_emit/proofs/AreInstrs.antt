@@ -3,7 +3,7 @@ use Rattle.std.proofs.Common.{◌≡◌, ℕ, ◌+◌, ◌-◌, ◌^◌, ◌<◌
 use Rattle.std.proofs.lemmas.List.Elements.{All-nil, All-cons}
 use Rattle.std.specs.List.{All}
 use Rattle.rv_isa.specs.declared.instr.Instr.{Instr}
-use Rattle.rv_isa.specs.Words.{IsInstr}
+use Rattle.rv_isa.specs.InstrWords.{IsInstr}
 use Rattle.rv_emit.specs.Code.{begin_code, check_code, exit_part, add_part, copy_part, past_code, start_code, kind_place}
 use Rattle.rv_emit.proofs.Begin.{begin_list, begin_is}
 use Rattle.rv_emit.proofs.Check.{check_list, check_is}

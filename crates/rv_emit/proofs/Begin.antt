@@ -8,10 +8,10 @@ use Rattle.rv_isa.specs.declared.instr.Instr.{Instr}
 use Rattle.rv_isa.specs.declared.instr.Instr.TheVariants.{I, B, U, Ecall}
 use Rattle.image_file.specs.Image.{Image}
 use Rattle.rv_emulate.specs.declared.end.CpuEnd.TheVariants.{Budget}
-use Rattle.rv_emulate.specs.Memory.{Memory}
-use Rattle.rv_emulate.specs.States.{State, Outcome, Ended}
-use Rattle.rv_emulate.specs.Steps.{word_at, extended, sum64}
-use Rattle.rv_isa.specs.Words.{word_of}
+use Rattle.rv_emulate.specs.EmulatorMemory.{Memory}
+use Rattle.rv_emulate.specs.EmulatorStates.{State, Outcome, Ended}
+use Rattle.rv_emulate.specs.EmulatorSteps.{word_at, extended, sum64}
+use Rattle.rv_isa.specs.InstrWords.{word_of}
 use Rattle.rv_emit.specs.Ways.{IsBetween, Comes}
 use Rattle.rv_emit.specs.Code.{upper_of, lower_of, begin_code}
 use Rattle.rv_emit.proofs.Words.{StandAt}

@@ -12,7 +12,7 @@ use Rattle.sil_model.specs.Start.{zero_cell, first_state}
 use Rattle.layout_params.specs.Areas.{blank_cells, all_cells}
 use Rattle.sil_base.specs.declared.places.TheConstants.{FIRST_WORD}
 use Rattle.sil_base.specs.declared.limits.TheConstants.{SCRATCH_BYTES}
-use Rattle.rv_emulate.specs.States.{start, padded, first_memory, first_registers, cell_total}
+use Rattle.rv_emulate.specs.EmulatorStates.{start, padded, first_memory, first_registers, cell_total}
 use Rattle.rv_emit.specs.Represents.{KeepsStack}
 use Rattle.rv_emit.specs.Ways.{ComesTo}
 use Rattle.rv_emit.specs.Code.{stack_top, last_place}
@@ -43,8 +43,8 @@ use Rattle.image_file.specs.Image.{Image}
 use Rattle.sil_model.specs.CellWords.{kind_of}
 use Rattle.rv_emit.specs.Parts.{IsImageOf}
 use Rattle.rv_emulate.specs.declared.end.CpuEnd.TheVariants.{Undefined, Budget}
-use Rattle.rv_emulate.specs.Memory.{Memory}
-use Rattle.rv_emulate.specs.States.{State, Outcome, On, Ended}
+use Rattle.rv_emulate.specs.EmulatorMemory.{Memory}
+use Rattle.rv_emulate.specs.EmulatorStates.{State, Outcome, On, Ended}
 use Rattle.rv_emit.specs.Represents.{Represents, PackedCells}
 use Rattle.rv_emit.specs.Ways.{place, Comes, EndsAs, Makes}
 use Rattle.rv_emit.specs.Code.{kind_place, exit_part, add_part, copy_part, body_of, emitted_words, emitted_places}

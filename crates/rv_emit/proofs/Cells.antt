@@ -13,7 +13,7 @@ use Rattle.sil_base.specs.declared.places.TheConstants.{FIRST_CELL, FIRST_KIND}
 use Rattle.sil_model.specs.Memory as model
 use Rattle.sil_model.specs.Access.{◌>>=◌, byte_place, cell_number, with_cell, with_cells, cell_at, put_cell, descr_of, descr_at, set_descr_at, a_at, set_a_at}
 use Rattle.sil_model.specs.CellWords.{kind_of}
-use Rattle.rv_emulate.specs.Memory.{Memory, loaded}
+use Rattle.rv_emulate.specs.EmulatorMemory.{Memory, loaded}
 use Rattle.rv_emit.specs.Represents.{PackedCells}
 use Rattle.rv_emit.specs.Code.{kind_place}
 use Rattle.rv_emit.proofs.Loads.{load_cells, load_kind}

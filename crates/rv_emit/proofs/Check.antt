@@ -8,9 +8,9 @@ use Rattle.rv_isa.specs.declared.instr.Instr.{Instr}
 use Rattle.rv_isa.specs.declared.instr.Instr.TheVariants.{I, B, U, Ecall}
 use Rattle.image_file.specs.Image.{Image}
 use Rattle.rv_emulate.specs.declared.end.CpuEnd.TheVariants.{Undefined}
-use Rattle.rv_emulate.specs.Memory.{Memory, loaded}
-use Rattle.rv_emulate.specs.States.{State, Outcome, Ended}
-use Rattle.rv_emulate.specs.Steps.{extended, sum64}
+use Rattle.rv_emulate.specs.EmulatorMemory.{Memory, loaded}
+use Rattle.rv_emulate.specs.EmulatorStates.{State, Outcome, Ended}
+use Rattle.rv_emulate.specs.EmulatorSteps.{extended, sum64}
 use Rattle.rv_emit.specs.Ways.{Comes}
 use Rattle.rv_emit.specs.Code.{upper_of, lower_of, check_code, kind_place}
 use Rattle.rv_emit.proofs.Words.{StandAt}

@@ -7,9 +7,9 @@ use Rattle.rv_isa.specs.declared.instr.UOp.TheVariants.{Lui}
 use Rattle.rv_isa.specs.declared.instr.Instr.{Instr}
 use Rattle.rv_isa.specs.declared.instr.Instr.TheVariants.{I, S, U}
 use Rattle.image_file.specs.Image.{Image}
-use Rattle.rv_emulate.specs.Memory.{Memory, loaded, stored}
-use Rattle.rv_emulate.specs.States.{State, Outcome, On}
-use Rattle.rv_emulate.specs.Steps.{extended}
+use Rattle.rv_emulate.specs.EmulatorMemory.{Memory, loaded, stored}
+use Rattle.rv_emulate.specs.EmulatorStates.{State, Outcome, On}
+use Rattle.rv_emulate.specs.EmulatorSteps.{extended}
 use Rattle.rv_emit.specs.Ways.{Comes}
 use Rattle.rv_emit.specs.Code.{upper_of, lower_of, copy_part, kind_place}
 use Rattle.rv_emit.proofs.Words.{StandAt}

@@ -22,7 +22,7 @@ use Rattle.sil_model.specs.Machine.{make_step, settle}
 use Rattle.sil_model.specs.Costs.{cost}
 use Rattle.image_file.specs.Image.{Image}
 use Rattle.rv_emulate.specs.declared.end.CpuEnd.TheVariants.{Exit, Undefined}
-use Rattle.rv_emulate.specs.States.{State, Outcome, Ended}
+use Rattle.rv_emulate.specs.EmulatorStates.{State, Outcome, Ended}
 use Rattle.rv_emit.specs.Ways.{Comes, Makes}
 use Rattle.rv_emit.proofs.Steps.{comes_within}
 use Rattle.rv_emit.proofs.Cells.{cell_address, a_is, a_none, some_cell, value_is}

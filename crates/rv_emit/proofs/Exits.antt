@@ -9,9 +9,9 @@ use Rattle.rv_isa.specs.declared.instr.Instr.TheVariants.{R, I, U, Ecall}
 use Rattle.image_file.specs.Image.{Image}
 use Rattle.rv_emulate.specs.declared.end.CpuEnd.{CpuEnd}
 use Rattle.rv_emulate.specs.declared.end.CpuEnd.TheVariants.{Exit}
-use Rattle.rv_emulate.specs.Memory.{Memory, loaded}
-use Rattle.rv_emulate.specs.States.{State, Outcome, Ended}
-use Rattle.rv_emulate.specs.Steps.{step, extended, r_value}
+use Rattle.rv_emulate.specs.EmulatorMemory.{Memory, loaded}
+use Rattle.rv_emulate.specs.EmulatorStates.{State, Outcome, Ended}
+use Rattle.rv_emulate.specs.EmulatorSteps.{step, extended, r_value}
 use Rattle.rv_emit.specs.Ways.{Comes}
 use Rattle.rv_emit.specs.Code.{upper_of, lower_of, exit_part}
 use Rattle.rv_emit.proofs.Words.{StandAt}

@@ -21,7 +21,7 @@ use Rattle.sil_model.specs.declared.table.Entry.{Entry}
 use Rattle.sil_model.specs.declared.table.Table.{Table}
 use Rattle.sil_model.specs.CellWords.{kind_of}
 use Rattle.rv_emit.specs.Parts.{table_entry_part, table_part, action_number, put_flag, next_table, put_value}
-use Rattle.rv_emulate.specs.States.{padded}
+use Rattle.rv_emulate.specs.EmulatorStates.{padded}
 
 -- ---- lists of pieces of one length
 

@@ -6,8 +6,8 @@ use Rattle.layout_params.specs.Parameters.{Settings}
 use Rattle.layout_params.specs.Sizes.{Sizes}
 use Rattle.sil_macros.specs.declared.names.Macro.{Macro}
 use Rattle.sil_macros.specs.declared.names.Macro.TheVariants.{Endex, Incra, Movd}
-use Rattle.sil_macros.specs.Places.{D, N}
-use Rattle.sil_macros.specs.Rows.{row}
+use Rattle.sil_macros.specs.OperandPlaces.{D, N}
+use Rattle.sil_macros.specs.MacroRows.{row}
 use Rattle.sil_base.specs.declared.places.TheConstants.{FIRST_CELL}
 use Rattle.sil_model.specs.declared.program.Arg.{Arg}
 use Rattle.sil_model.specs.declared.program.Arg.TheVariants.{Place, Number}

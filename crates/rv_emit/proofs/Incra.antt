@@ -22,9 +22,9 @@ use Rattle.sil_model.specs.Machine.{make_step, settle}
 use Rattle.sil_model.specs.Costs.{cost}
 use Rattle.image_file.specs.Image.{Image}
 use Rattle.rv_emulate.specs.declared.end.CpuEnd.TheVariants.{Undefined}
-use Rattle.rv_emulate.specs.Memory.{Memory, loaded, stored}
-use Rattle.rv_emulate.specs.States.{State, On, Ended}
-use Rattle.rv_emulate.specs.Steps.{sum64}
+use Rattle.rv_emulate.specs.EmulatorMemory.{Memory, loaded, stored}
+use Rattle.rv_emulate.specs.EmulatorStates.{State, On, Ended}
+use Rattle.rv_emulate.specs.EmulatorSteps.{sum64}
 use Rattle.rv_emit.specs.Represents.{Represents}
 use Rattle.rv_emit.specs.Ways.{place, Comes, Makes}
 use Rattle.rv_emit.proofs.Steps.{at, comes_within}

@@ -4,7 +4,7 @@ use Rattle.std.proofs.lemmas.Option.{slice_get_within}
 use Rattle.std.specs.Prelude.{slice_get, ◌==◌}
 use Rattle.sil_base.specs.Bytes.{number, piece}
 use Rattle.sil_base.specs.declared.places.TheConstants.{FIRST_CELL, FIRST_KIND}
-use Rattle.rv_emulate.specs.Memory.{Memory, loaded, load_from}
+use Rattle.rv_emulate.specs.EmulatorMemory.{Memory, loaded, load_from}
 
 -- a doubleword of the cells
 pub load_cells : (constants : List ℕ) (m : Memory) (i : ℕ) → (FIRST_CELL + i) % 8 ≡ 0 → i + 8 ≤ length m.cells → loaded constants m 8 (FIRST_CELL + i) ≡ Some (number (piece i 8 m.cells))

@@ -3,7 +3,7 @@ use Rattle.std.proofs.Common.{◌≡◌, ◌≢◌, ℕ, zero, suc, ◌+◌, ◌
 use Rattle.std.specs.Prelude.{slice_get}
 use Rattle.rv_isa.specs.declared.instr.Instr.{Instr}
 use Rattle.image_file.specs.Image.{StatementEntry}
-use Rattle.rv_emulate.specs.Runs.{entry_from}
+use Rattle.rv_emulate.specs.EmulatorRuns.{entry_from}
 use Rattle.rv_emit.specs.Code.{places_from, place_after}
 
 -- no code is empty

@@ -3,7 +3,7 @@ use Rattle.std.proofs.Common.{◌≡◌, ℕ, zero, ◌+◌, ◌*◌, ◌%◌, �
 use Rattle.std.proofs.lemmas.List.{length-map}
 use Rattle.std.specs.Prelude.{IsTrue, All, nat_le, nat_lt, ◌==◌, ◌&&◌}
 use Rattle.rv_isa.specs.declared.instr.Instr.{Instr}
-use Rattle.rv_isa.specs.Words.{word_of}
+use Rattle.rv_isa.specs.InstrWords.{word_of}
 use Rattle.sil_model.specs.declared.program.Statement.{Statement}
 use Rattle.sil_base.specs.declared.places.TheConstants.{FIRST_WORD}
 use Rattle.image_file.specs.Image.{StatementEntry, places_rise}

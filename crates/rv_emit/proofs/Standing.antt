@@ -3,7 +3,7 @@ use Rattle.std.proofs.Common.{◌≡◌, ◌≢◌, ℕ, zero, suc, ◌+◌, ◌
 use Rattle.std.proofs.lemmas.List.{length-map}
 use Rattle.std.specs.Prelude.{slice_get}
 use Rattle.rv_isa.specs.declared.instr.Instr.{Instr}
-use Rattle.rv_isa.specs.Words.{word_of}
+use Rattle.rv_isa.specs.InstrWords.{word_of}
 use Rattle.layout_params.specs.Parameters.{Settings}
 use Rattle.sil_macros.specs.declared.names.Macro.{Macro}
 use Rattle.sil_macros.specs.declared.names.Macro.TheVariants.{Endex, Incra, Movd}
@@ -14,7 +14,7 @@ use Rattle.sil_model.specs.declared.program.Statement.{Statement}
 use Rattle.sil_base.specs.declared.places.TheConstants.{FIRST_WORD}
 use Rattle.image_file.specs.Image.{Image}
 use Rattle.rv_emit.specs.Parts.{IsImageOf}
-use Rattle.rv_emulate.specs.Runs.{entry_at}
+use Rattle.rv_emulate.specs.EmulatorRuns.{entry_at}
 use Rattle.rv_emit.specs.Ways.{place}
 use Rattle.rv_emit.specs.Code.{begin_code, exit_part, add_part, copy_part, check_code, start_code, past_code, body_of, code_of, codes_from, joined_codes, places_from, first_entry, stack_top, emitted_words, emitted_places, last_place}
 use Rattle.rv_emit.proofs.Places.{AreFull, place_at, place_at-least, place_at-end, place_at-below, place_at-next, get_or-places, entry_before, entry_past, entry_here, entry_between}

@@ -10,9 +10,9 @@ use Rattle.sil_base.specs.Bytes.{low_bytes, with_piece}
 use Rattle.sil_base.proofs.Numbers.{length-with_piece, length-low_bytes}
 use Rattle.image_file.specs.Image.{Image}
 use Rattle.sil_base.specs.declared.places.TheConstants.{FIRST_SCRATCH}
-use Rattle.rv_emulate.specs.Memory.{Memory}
-use Rattle.rv_emulate.specs.States.{State, Outcome, On}
-use Rattle.rv_emulate.specs.Steps.{extended}
+use Rattle.rv_emulate.specs.EmulatorMemory.{Memory}
+use Rattle.rv_emulate.specs.EmulatorStates.{State, Outcome, On}
+use Rattle.rv_emulate.specs.EmulatorSteps.{extended}
 use Rattle.rv_emit.specs.Ways.{Comes}
 use Rattle.rv_emit.specs.Code.{upper_of, lower_of, start_code}
 use Rattle.rv_emit.proofs.Words.{StandAt}

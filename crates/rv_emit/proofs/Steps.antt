@@ -9,17 +9,17 @@ use Rattle.rv_isa.specs.declared.instr.BOp.{BOp}
 use Rattle.rv_isa.specs.declared.instr.UOp.TheVariants.{Lui}
 use Rattle.rv_isa.specs.declared.instr.Instr.{Instr}
 use Rattle.rv_isa.specs.declared.instr.Instr.TheVariants.{R, I, S, B, U, J, Ecall}
-use Rattle.rv_isa.specs.Words.{word_of, IsInstr, twos, IsFrom}
+use Rattle.rv_isa.specs.InstrWords.{word_of, IsInstr, twos, IsFrom}
 use Rattle.rv_isa.proofs.Back.{decoded-word, one-word}
 use Rattle.image_file.specs.Image.{Image}
 use Rattle.rv_emulate.specs.declared.end.CpuEnd.{CpuEnd}
 use Rattle.rv_emulate.specs.declared.end.CpuEnd.TheVariants.{Exit, Undefined, Budget}
-use Rattle.rv_emulate.specs.Memory.{Memory, loaded, stored}
-use Rattle.rv_emulate.specs.States.{State, Outcome, On, Ended, register, with_register}
-use Rattle.rv_emulate.specs.Steps.{step, act, word_at, with_word, with_instr, sum64, extended, r_value, taken, load_step, store_step, answer, ended}
-use Rattle.rv_emulate.specs.Calls.{call, can_read, can_write, is_unit_call}
-use Rattle.rv_emulate.specs.Runs.{run, on_state}
-use Rattle.rv_emulate.specs.Ways.{Along}
+use Rattle.rv_emulate.specs.EmulatorMemory.{Memory, loaded, stored}
+use Rattle.rv_emulate.specs.EmulatorStates.{State, Outcome, On, Ended, register, with_register}
+use Rattle.rv_emulate.specs.EmulatorSteps.{step, act, word_at, with_word, with_instr, sum64, extended, r_value, taken, load_step, store_step, answer, ended}
+use Rattle.rv_emulate.specs.Ecalls.{call, can_read, can_write, is_unit_call}
+use Rattle.rv_emulate.specs.EmulatorRuns.{run, on_state}
+use Rattle.rv_emulate.specs.AlongRuns.{Along}
 use Rattle.rv_emit.specs.Ways.{IsBetween, Permits, Comes}
 use Rattle.rv_emit.specs.Code.{upper_of, lower_of}
 

@@ -3,7 +3,7 @@ use Rattle.std.proofs.Common.{◌≡◌, ℕ, ◌+◌, ◌-◌, ◌%◌, ◌^◌
 use Rattle.std.specs.Prelude.{◌==◌}
 use Rattle.sil_base.specs.Bytes.{low_bytes, with_piece}
 use Rattle.sil_base.specs.declared.places.TheConstants.{FIRST_CELL, FIRST_KIND, FIRST_TABLE, FIRST_SCRATCH}
-use Rattle.rv_emulate.specs.Memory.{Memory, stored, store_into}
+use Rattle.rv_emulate.specs.EmulatorMemory.{Memory, stored, store_into}
 
 past_region : (first : ℕ) (bytes : List ℕ) (n address v : ℕ) → first + length bytes < address + n → store_into first bytes n address v ≡ None
 past_region first bytes n address v h = grind arith

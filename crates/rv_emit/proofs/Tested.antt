@@ -16,7 +16,7 @@ use Rattle.sil_model.specs.Valid.{IsValid}
 use Rattle.image_file.specs.Image.{Image}
 use Rattle.rv_emit.specs.Parts.{IsImageOf}
 use Rattle.rv_emulate.specs.declared.end.CpuEnd.TheVariants.{Undefined}
-use Rattle.rv_emulate.specs.States.{State, Outcome, Ended}
+use Rattle.rv_emulate.specs.EmulatorStates.{State, Outcome, Ended}
 use Rattle.rv_emit.specs.Represents.{Represents, PackedCells}
 use Rattle.rv_emit.specs.Ways.{place, Comes}
 use Rattle.rv_emit.specs.Code.{kind_place, body_of, emitted_words, emitted_places, last_place}

@@ -5,7 +5,7 @@ use Rattle.std.specs.List.{All}
 use Rattle.std.specs.Int.{w64, cast_unsigned}
 use Rattle.std.specs.Prelude.{ℤ, pos}
 use Rattle.rv_isa.specs.declared.instr.Instr.{Instr}
-use Rattle.rv_isa.specs.Words.{IsInstr, word_of}
+use Rattle.rv_isa.specs.InstrWords.{IsInstr, word_of}
 use Rattle.rv_isa.proofs.Back.{are_parts}
 use Rattle.sil_base.specs.declared.places.TheConstants.{FIRST_CELL}
 use Rattle.sil_macros.specs.declared.names.Macro.{Macro}

@@ -2,9 +2,9 @@
 use Rattle.std.proofs.Common.{◌≡◌, ℕ, zero, suc, ◌+◌, ◌-◌, ◌*◌, ◌/◌, ◌%◌, List, [], ◌∷◌, ◌++◌, length, map, drop, Some, refl, sym, ap, subst, ◌∙◌, arith, append_assoc}
 use Rattle.std.specs.Prelude.{slice_get}
 use Rattle.rv_isa.specs.declared.instr.Instr.{Instr}
-use Rattle.rv_isa.specs.Words.{word_of}
+use Rattle.rv_isa.specs.InstrWords.{word_of}
 use Rattle.sil_base.specs.declared.places.TheConstants.{FIRST_WORD}
-use Rattle.rv_emulate.specs.Steps.{word_at}
+use Rattle.rv_emulate.specs.EmulatorSteps.{word_at}
 use Rattle.rv_emit.specs.Code.{joined_codes, place_after}
 use Rattle.rv_emit.proofs.Places.{place_at}
 

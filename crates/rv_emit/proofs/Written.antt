@@ -17,8 +17,8 @@ use Rattle.sil_model.specs.States as machine
 use Rattle.image_file.specs.Image.{Image}
 use Rattle.sil_model.specs.CellWords.{kind_of}
 use Rattle.sil_model.specs.Memory as machine_memory
-use Rattle.rv_emulate.specs.Memory.{Memory}
-use Rattle.rv_emulate.specs.States.{State}
+use Rattle.rv_emulate.specs.EmulatorMemory.{Memory}
+use Rattle.rv_emulate.specs.EmulatorStates.{State}
 use Rattle.rv_emit.specs.Represents.{Represents, PackedCells}
 use Rattle.rv_emit.proofs.Registers.{IsFile}
 use Rattle.rv_emit.proofs.Steps.{at}

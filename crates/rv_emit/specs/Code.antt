@@ -9,7 +9,7 @@ use Rattle.rv_isa.specs.declared.instr.BOp.TheVariants.{Beq, Bne}
 use Rattle.rv_isa.specs.declared.instr.UOp.TheVariants.{Lui}
 use Rattle.rv_isa.specs.declared.instr.Instr.{Instr}
 use Rattle.rv_isa.specs.declared.instr.Instr.TheVariants.{R, I, S, B, U, Ecall}
-use Rattle.rv_isa.specs.Words.{word_of}
+use Rattle.rv_isa.specs.InstrWords.{word_of}
 use Rattle.rv_isa.specs.Decoded.{signed}
 use Rattle.layout_params.specs.Parameters.{Settings}
 use Rattle.sil_base.specs.declared.places.TheConstants.{FIRST_CELL, FIRST_WORD, FIRST_KIND, FIRST_SCRATCH}

@@ -11,8 +11,8 @@ use Rattle.sil_model.specs.States as machine
 use Rattle.sil_model.specs.CellWords.{kind_of}
 use Rattle.rv_emit.specs.Parts.{table_part}
 use Rattle.sil_base.specs.declared.limits.TheConstants.{SCRATCH_BYTES}
-use Rattle.rv_emulate.specs.Memory.{Memory}
-use Rattle.rv_emulate.specs.States.{State, register, steps_left}
+use Rattle.rv_emulate.specs.EmulatorMemory.{Memory}
+use Rattle.rv_emulate.specs.EmulatorStates.{State, register, steps_left}
 
 -- each cell's bytes are packed from the cell, and its kind byte tells what it is
 pub record PackedCells (sizes : Sizes) (cells : List Cell) (m : Memory) : Type 0 where

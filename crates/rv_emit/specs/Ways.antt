@@ -18,10 +18,10 @@ use Rattle.sil_base.specs.declared.places.TheConstants.{FIRST_WORD}
 use Rattle.image_file.specs.Image.{Image}
 use Rattle.rv_emulate.specs.declared.end.CpuEnd.{CpuEnd}
 use Rattle.rv_emulate.specs.declared.end.CpuEnd.TheVariants.{Exit, Trap, Undefined, UnitFault, Budget, Memory}
-use Rattle.rv_emulate.specs.States.{State, Outcome, On, Ended, start}
-use Rattle.rv_emulate.specs.Steps.{step}
-use Rattle.rv_emulate.specs.Runs.{run, entry_at}
-use Rattle.rv_emulate.specs.Ways.{Along, Calls}
+use Rattle.rv_emulate.specs.EmulatorStates.{State, Outcome, On, Ended, start}
+use Rattle.rv_emulate.specs.EmulatorSteps.{step}
+use Rattle.rv_emulate.specs.EmulatorRuns.{run, entry_at}
+use Rattle.rv_emulate.specs.AlongRuns.{Along, Calls}
 use Rattle.rv_emit.specs.Represents.{Represents}
 
 -- the machine's end in the emulator's words; no other end of the emulator is the same as one of the machine

@@ -1,6 +1,6 @@
 // Words at the end of the code.
 ghost use Rattle.std.specs.Prelude.{◌≡◌, ◌++◌, map, All, OnOk};
-ghost use Rattle.rv_isa.specs.Words.{IsInstr, word_of};
+ghost use Rattle.rv_isa.specs.InstrWords.{IsInstr, word_of};
 
 use rv_isa::{Instr, encode};
 use std::alloc::AllocError;

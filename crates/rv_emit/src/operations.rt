@@ -1,6 +1,6 @@
 // The words that follow the beginning of a statement.
 ghost use Rattle.std.specs.Prelude.{◌≡◌, ◌+◌, ◌-◌, ◌++◌, ◌<◌, ◌≤◌, ◌^◌, map, OnOk};
-ghost use Rattle.rv_isa.specs.Words.{word_of};
+ghost use Rattle.rv_isa.specs.InstrWords.{word_of};
 ghost use Rattle.sil_model.specs.Built.{AreStatic};
 ghost use Rattle.rv_emit.specs.Code.{add_part, body_of, check_code, copy_part, exit_part};
 

@@ -7,17 +7,17 @@ use Rattle.rv_isa.specs.declared.instr.IOp.TheVariants.{Addi, Slti, Sltiu, Xori,
 use Rattle.rv_isa.specs.declared.instr.UOp.TheVariants.{Lui, Auipc}
 use Rattle.rv_isa.specs.declared.instr.Instr.{Instr}
 use Rattle.rv_isa.specs.declared.instr.Instr.TheVariants.{R, I, S, B, U, J, Ecall}
-use Rattle.rv_isa.specs.Words.{twos}
+use Rattle.rv_isa.specs.InstrWords.{twos}
 use Rattle.rv_isa.specs.Decoded.{decoded}
 use Rattle.sil_base.specs.declared.places.TheConstants.{FIRST_WORD}
 use Rattle.image_file.specs.Image.{Image}
 use Rattle.rv_emulate.specs.declared.code.Code.{Code}
-use Rattle.rv_emulate.specs.Memory.{Memory, loaded, stored}
-use Rattle.rv_emulate.specs.States.{State, Outcome, On, Ended, register, statement_number}
-use Rattle.rv_emulate.specs.Calls.{call, is_unit_call}
-use Rattle.rv_emulate.specs.Steps.{step, act, i_step, answer, ended, ecall, load_step, loads, loads_signed, store_step, with_instr, with_word, word_at, extended_from, s_width, sum64}
-use Rattle.rv_emulate.specs.Runs.{run, on_state}
-use Rattle.rv_emulate.specs.View.{image_of, instr_at, with_fetched, code_step, code_run}
+use Rattle.rv_emulate.specs.EmulatorMemory.{Memory, loaded, stored}
+use Rattle.rv_emulate.specs.EmulatorStates.{State, Outcome, On, Ended, register, statement_number}
+use Rattle.rv_emulate.specs.Ecalls.{call, is_unit_call}
+use Rattle.rv_emulate.specs.EmulatorSteps.{step, act, i_step, answer, ended, ecall, load_step, loads, loads_signed, store_step, with_instr, with_word, word_at, extended_from, s_width, sum64}
+use Rattle.rv_emulate.specs.EmulatorRuns.{run, on_state}
+use Rattle.rv_emulate.specs.CpuView.{image_of, instr_at, with_fetched, code_step, code_run}
 
 -- the state, or the end, with other tapes
 abbrev pub taped : Tapes → State → State

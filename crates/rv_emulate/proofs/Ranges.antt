@@ -5,7 +5,7 @@ use Rattle.rv_isa.specs.declared.instr.Instr.{Instr}
 use Rattle.rv_isa.specs.declared.parts.Parts.{Parts}
 use Rattle.rv_isa.specs.declared.instr.Instr.TheVariants.{R, I, S, B, U, J, Ecall}
 use Rattle.rv_isa.specs.declared.instr.UOp.TheVariants.{Lui, Auipc}
-use Rattle.rv_isa.specs.Rows.{shift_row}
+use Rattle.rv_isa.specs.InstrRows.{shift_row}
 use Rattle.rv_isa.specs.Decoded.{decoded, decoded_parts, decoded_r, decoded_i, decoded_s, decoded_b, decoded_ecall, op_r, op_i, op_s, op_b, then_some, parts_of, upper, signed, bits_b, bits_j, bits_i, immediate_i}
 use Rattle.rv_emulate.specs.Ranges.{is_in_range, are_in_range}
 

@@ -4,10 +4,10 @@ use Rattle.std.proofs.lemmas.List.{append-nil}
 use Rattle.unit_io.specs.Tapes.{Tapes}
 use Rattle.image_file.specs.Image.{Image}
 use Rattle.rv_emulate.specs.declared.end.CpuEnd.{CpuEnd}
-use Rattle.rv_emulate.specs.States.{State, Outcome, On, Ended, steps_left}
-use Rattle.rv_emulate.specs.Steps.{step}
-use Rattle.rv_emulate.specs.Runs.{run, met, met_now, listed, met_after, met_with, on_state, entry_at}
-use Rattle.rv_emulate.specs.Ways.{Along}
+use Rattle.rv_emulate.specs.EmulatorStates.{State, Outcome, On, Ended, steps_left}
+use Rattle.rv_emulate.specs.EmulatorSteps.{step}
+use Rattle.rv_emulate.specs.EmulatorRuns.{run, met, met_now, listed, met_after, met_with, on_state, entry_at}
+use Rattle.rv_emulate.specs.AlongRuns.{Along}
 
 module _ (image : Image) where
   -- j instructions to t, and then k

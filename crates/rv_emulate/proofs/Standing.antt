@@ -10,11 +10,11 @@ use Rattle.rv_emulate.specs.declared.hart.Hart.{Hart}
 use Rattle.rv_emulate.specs.declared.end.CpuEnd.{CpuEnd}
 use Rattle.rv_emulate.specs.declared.end.CpuEnd.TheVariants.{Runaway}
 use Rattle.rv_emulate.specs.declared.end.CpuStep.TheVariants as steps
-use Rattle.rv_emulate.specs.States.{State, Outcome, On, Ended, steps_left}
-use Rattle.rv_emulate.specs.Steps.{step}
-use Rattle.rv_emulate.specs.Runs.{run, on_state, end_of, entry_from, entry_at, met_with, met_now}
+use Rattle.rv_emulate.specs.EmulatorStates.{State, Outcome, On, Ended, steps_left}
+use Rattle.rv_emulate.specs.EmulatorSteps.{step}
+use Rattle.rv_emulate.specs.EmulatorRuns.{run, on_state, end_of, entry_from, entry_at, met_with, met_now}
 use Rattle.rv_emulate.specs.Cpus.{CpuState, IsOf, stands, stands_with, state}
-use Rattle.rv_emulate.specs.View.{state_of, view_of, entry_of, code_step, code_run, Steps, Runs}
+use Rattle.rv_emulate.specs.CpuView.{state_of, view_of, entry_of, code_step, code_run, Steps, Runs}
 use Rattle.rv_emulate.proofs.Alike.{IsCodeOf, taped, taped_outcome, step_alike, run_alike}
 
 alike : (image : Image) (code : Code) (u : Hart) (e : Option CpuEnd) → IsOf image (view_of code u e) → IsCodeOf code image

@@ -3,9 +3,9 @@ use Rattle.std.proofs.Common.{◌≡◌, ℕ, suc, ◌+◌, ◌-◌, ◌<◌, �
 use Rattle.rv_emulate.specs.declared.code.Code.{Code}
 use Rattle.rv_emulate.specs.declared.end.CpuEnd.{CpuEnd}
 use Rattle.rv_emulate.specs.declared.end.CpuStep.TheVariants as steps
-use Rattle.rv_emulate.specs.States.{State, Outcome, On, Ended}
-use Rattle.rv_emulate.specs.Runs.{on_state}
-use Rattle.rv_emulate.specs.View.{code_step, code_run, Steps, Runs}
+use Rattle.rv_emulate.specs.EmulatorStates.{State, Outcome, On, Ended}
+use Rattle.rv_emulate.specs.EmulatorRuns.{on_state}
+use Rattle.rv_emulate.specs.CpuView.{code_step, code_run, Steps, Runs}
 
 next_is : (code : Code) (k : ℕ) (o r : Outcome) (s u : State) → Steps o steps.Next s u → on_state o (code_run code k) ≡ r → code_run code k u ≡ r
 next_is code k (On t) r s u h e = ap (λ x. code_run code k x) (sym h) ∙ e

@@ -7,8 +7,8 @@ use Rattle.image_file.specs.Image.{Image}
 use Rattle.rv_emulate.specs.declared.end.CpuEnd.{CpuEnd}
 use Rattle.rv_emulate.specs.declared.end.CpuStep.{CpuStep}
 use Rattle.rv_emulate.specs.declared.end.CpuStep.TheVariants as steps
-use Rattle.rv_emulate.specs.Memory.{Memory}
-use Rattle.rv_emulate.specs.States.{State, Outcome, On, Ended}
+use Rattle.rv_emulate.specs.EmulatorMemory.{Memory}
+use Rattle.rv_emulate.specs.EmulatorStates.{State, Outcome, On, Ended}
 
 -- the instructions of its image's words, none where a word is no instruction, its constants, and its statements' places; the place of the next instruction, the registers and the memory; the unit of the last unit call where that call failed; and how its run has ended, if it has
 pub record CpuState : Type 0 where

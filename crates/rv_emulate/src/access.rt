@@ -2,8 +2,8 @@
 
 ghost use Rattle.std.specs.Prelude.{◌≡◌, ◌==◌, ◌%◌, ◌+◌, ◌<◌, ◌≤◌, ◌^◌, ◌⊎◌, IfSome, length};
 ghost use Rattle.sil_base.specs.Bytes.{with_piece, low_bytes};
-ghost use Rattle.rv_emulate.specs.Memory.{holds, load_from, loaded, store_into, stored};
-ghost use Rattle.rv_emulate.specs.View.{Puts, memory_of};
+ghost use Rattle.rv_emulate.specs.EmulatorMemory.{holds, load_from, loaded, store_into, stored};
+ghost use Rattle.rv_emulate.specs.CpuView.{Puts, memory_of};
 
 use crate::bytes::number_of;
 use crate::memory::{Regions, holds};
@@ -52,7 +52,7 @@ fn put_in(first: u64, bytes: &mut [u8], width: usize, address: u64, value: u64) 
 }
 
 /// The number in `width` bytes at an address; none where it is misaligned, or no region holds it.
-#[tactic(auto, unfolding(crate::specs::Memory::loaded))]
+#[tactic(auto, unfolding(crate::specs::EmulatorMemory::loaded))]
 pub(crate) fn load(constants: &[u8], regions: &Regions, width: usize, address: u64) -> Option<u64>
     requires { (width ≡ 1) ⊎ (width ≡ 2) ⊎ (width ≡ 4) ⊎ (width ≡ 8) }
     ensures number { result ≡ loaded constants.now (memory_of regions.now) width address }
@@ -78,7 +78,7 @@ pub(crate) fn load(constants: &[u8], regions: &Regions, width: usize, address: u
 
 /// Stores the `width` lowest bytes of a number at an address, where it is aligned and a region that
 /// can be stored to holds it.
-#[tactic(auto, unfolding(crate::specs::Memory::stored))]
+#[tactic(auto, unfolding(crate::specs::EmulatorMemory::stored))]
 pub(crate) fn store(regions: &mut Regions, width: usize, address: u64, value: u64) -> bool
     requires { (width ≡ 1) ⊎ (width ≡ 2) ⊎ (width ≡ 4) ⊎ (width ≡ 8) }
     ensures { Puts result (stored (memory_of regions.old) width address value) (memory_of regions.old) (memory_of regions.new) }

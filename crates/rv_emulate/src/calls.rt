@@ -1,10 +1,10 @@
 // Calls, by their numbers in a7 and their operands in a0 to a5.
 
 ghost use Rattle.std.specs.Prelude.{◌≡◌, ◌<◌, ◌^◌, length};
-ghost use Rattle.rv_emulate.specs.States.{register};
-ghost use Rattle.rv_emulate.specs.Memory.{can_load, can_store};
-ghost use Rattle.rv_emulate.specs.Calls.{call, can_take, is_unit_call, unit_fault};
-ghost use Rattle.rv_emulate.specs.View.{memory_of};
+ghost use Rattle.rv_emulate.specs.EmulatorStates.{register};
+ghost use Rattle.rv_emulate.specs.EmulatorMemory.{can_load, can_store};
+ghost use Rattle.rv_emulate.specs.Ecalls.{call, can_take, is_unit_call, unit_fault};
+ghost use Rattle.rv_emulate.specs.CpuView.{memory_of};
 
 use crate::end::CpuEnd;
 use crate::hart::Hart;
@@ -80,7 +80,7 @@ fn can_take(constants: &[u8], regions: &Regions, address: u64, count: u64, form:
 }
 
 /// Whether one region that can be stored to holds so many bytes at an address; each holds none.
-#[tactic(auto, unfolding(crate::specs::Memory::can_store))]
+#[tactic(auto, unfolding(crate::specs::EmulatorMemory::can_store))]
 fn can_store(regions: &Regions, n: u64, address: u64) -> bool
     ensures { result ≡ can_store (memory_of regions.now) n address }
 {
@@ -92,7 +92,7 @@ fn can_store(regions: &Regions, n: u64, address: u64) -> bool
 }
 
 /// Whether one region that can be loaded from holds so many bytes at an address; each holds none.
-#[tactic(auto, unfolding(crate::specs::Memory::can_load))]
+#[tactic(auto, unfolding(crate::specs::EmulatorMemory::can_load))]
 fn can_load(constants: &[u8], regions: &Regions, n: u64, address: u64) -> bool
     ensures { result ≡ can_load constants.now (memory_of regions.now) n address }
 {

@@ -6,8 +6,8 @@ ghost use Rattle.unit_io.specs.Tapes.{Tapes};
 ghost use Rattle.unit_io.specs.Units.{tapes_of};
 ghost use Rattle.image_file.specs.Image.{Image};
 ghost use Rattle.rv_emulate.specs.Ranges.{Rises};
-ghost use Rattle.rv_emulate.specs.Steps.{step};
-ghost use Rattle.rv_emulate.specs.Runs.{run, on_state, end_of, met_now};
+ghost use Rattle.rv_emulate.specs.EmulatorSteps.{step};
+ghost use Rattle.rv_emulate.specs.EmulatorRuns.{run, on_state, end_of, met_now};
 ghost use Rattle.rv_emulate.specs.Cpus.{IsOf, SameImage, IfEnded, stands, state, answer_of, is_told};
 
 use crate::code::Code;
@@ -26,7 +26,7 @@ pub struct Cpu {
 
 impl Model for Cpu {
     ghost use Rattle.rv_emulate.specs.Cpus.{CpuState};
-    ghost use Rattle.rv_emulate.specs.View.{view_of};
+    ghost use Rattle.rv_emulate.specs.CpuView.{view_of};
 
     ghost Value = { CpuState };
 

@@ -1,8 +1,8 @@
 // What changes as instructions run.
 
 ghost use Rattle.std.specs.Prelude.{◌≡◌, ◌+◌, ◌<◌, ◌^◌};
-ghost use Rattle.rv_emulate.specs.States.{register, with_register};
-ghost use Rattle.rv_emulate.specs.View.{state_of};
+ghost use Rattle.rv_emulate.specs.EmulatorStates.{register, with_register};
+ghost use Rattle.rv_emulate.specs.CpuView.{state_of};
 
 use crate::memory::Regions;
 

@@ -1,7 +1,7 @@
 // The regions of memory.
 
 ghost use Rattle.std.specs.Prelude.{◌≡◌, ◌<◌, ◌^◌, length};
-ghost use Rattle.rv_emulate.specs.Memory.{holds};
+ghost use Rattle.rv_emulate.specs.EmulatorMemory.{holds};
 
 /// The regions that a store may change.
 #[derive(Drop)]

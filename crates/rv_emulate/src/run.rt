@@ -1,6 +1,6 @@
 // Instructions one after another.
 
-ghost use Rattle.rv_emulate.specs.View.{code_run, state_of, Runs};
+ghost use Rattle.rv_emulate.specs.CpuView.{code_run, state_of, Runs};
 
 use crate::code::Code;
 use crate::end::{CpuEnd, CpuStep};

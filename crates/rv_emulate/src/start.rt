@@ -4,10 +4,10 @@ ghost use Rattle.std.specs.Prelude.{◌≡◌, ◌+◌, ◌-◌, ◌*◌, ◌/�
 ghost use Rattle.unit_io.specs.Tapes.{Tapes};
 ghost use Rattle.rv_isa.specs.Decoded.{decoded};
 ghost use Rattle.image_file.specs.Image.{IsImage};
-ghost use Rattle.rv_emulate.specs.States.{On, cell_total, first_memory, first_registers, padded, start};
-ghost use Rattle.rv_emulate.specs.Runs.{budget, budget_of};
+ghost use Rattle.rv_emulate.specs.EmulatorStates.{On, cell_total, first_memory, first_registers, padded, start};
+ghost use Rattle.rv_emulate.specs.EmulatorRuns.{budget, budget_of};
 ghost use Rattle.rv_emulate.specs.Cpus.{IsOf, stands};
-ghost use Rattle.rv_emulate.specs.View.{memory_of};
+ghost use Rattle.rv_emulate.specs.CpuView.{memory_of};
 
 use crate::code::Code;
 use crate::cpu::Cpu;
@@ -23,7 +23,7 @@ use std::alloc::{AllocError, Global};
 
 impl Cpu {
     /// A run of an image, of at most `n` statements. It takes all the memory that its steps need.
-    #[tactic(auto, unfolding(crate::specs::States::start))]
+    #[tactic(auto, unfolding(crate::specs::EmulatorStates::start))]
     pub fn new(alloc: Global, image: &Image, n: u64) -> Result<Cpu, AllocError>
         requires { n ≤ MAX_STEPS }
         ensures image { IfOk result (λ cpu. IsOf image.now cpu) }

@@ -2,9 +2,9 @@
 
 ghost use Rattle.std.specs.Prelude.{◌≡◌, ◌<◌, ◌^◌, ◌⊎◌, IfSome, true, Some};
 ghost use Rattle.rv_emulate.specs.Ranges.{is_in_range, are_in_range};
-ghost use Rattle.rv_emulate.specs.States.{register};
-ghost use Rattle.rv_emulate.specs.Steps.{act, ecall, next_with, loads, loads_signed, r_value, s_width};
-ghost use Rattle.rv_emulate.specs.View.{code_step, image_of, instr_at, state_of, Steps};
+ghost use Rattle.rv_emulate.specs.EmulatorStates.{register};
+ghost use Rattle.rv_emulate.specs.EmulatorSteps.{act, ecall, next_with, loads, loads_signed, r_value, s_width};
+ghost use Rattle.rv_emulate.specs.CpuView.{code_step, image_of, instr_at, state_of, Steps};
 
 use crate::access::{load, store};
 use crate::calls::ABSENT;
@@ -17,7 +17,7 @@ use sil_base::FIRST_WORD;
 
 impl Hart {
     /// Makes one step, or says how the run ends and changes nothing.
-    #[tactic(auto, unfolding(crate::specs::View::code_step))]
+    #[tactic(auto, unfolding(crate::specs::CpuView::code_step))]
     pub(crate) fn step(&mut self, code: &Code) -> CpuStep
         ensures { Steps (code_step code.now (state_of self.old)) result (state_of self.old) (state_of self.new) }
     {

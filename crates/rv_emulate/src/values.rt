@@ -2,9 +2,9 @@
 
 ghost use Rattle.std.specs.Prelude.{◌≡◌, ◌-◌, ◌*◌, ◌%◌, ◌/◌, ◌^◌, ◌<◌, ◌⊎◌, ◌==◌, ◌*ℤ◌, if◌then◌else◌};
 ghost use Rattle.std.specs.Int.{w32};
-ghost use Rattle.rv_isa.specs.Words.{twos};
+ghost use Rattle.rv_isa.specs.InstrWords.{twos};
 ghost use Rattle.rv_isa.specs.declared.instr.ROp.TheVariants as r;
-ghost use Rattle.rv_emulate.specs.Values.{r_value, extended, extended_from, taken, quotient, remainder, upper_half};
+ghost use Rattle.rv_emulate.specs.InstrValues.{r_value, extended, extended_from, taken, quotient, remainder, upper_half};
 
 use rv_isa::{BOp, ROp};
 

@@ -14,8 +14,8 @@ use Rattle.rv_isa.specs.declared.instr.UOp.TheVariants.{Lui, Auipc}
 use Rattle.rv_isa.specs.declared.instr.Instr.{Instr}
 use Rattle.rv_isa.specs.declared.instr.Instr.TheVariants.{R, I, S, B, U, J, Ecall}
 use Rattle.rv_isa.specs.declared.parts.Parts.{Parts}
-use Rattle.rv_isa.specs.Words.{AreParts, joined, fields_of, word_of, IsInstr, IsFrom, FitsI, twos}
-use Rattle.rv_isa.specs.Rows.{shift_row}
+use Rattle.rv_isa.specs.InstrWords.{AreParts, joined, fields_of, word_of, IsInstr, IsFrom, FitsI, twos}
+use Rattle.rv_isa.specs.InstrRows.{shift_row}
 use Rattle.rv_isa.specs.Decoded.{decoded, decoded_parts, parts_of, signed}
 
 pub parts_joined : (f : Parts) → AreParts f → parts_of (joined f) ≡ f

@@ -12,8 +12,8 @@ use Rattle.rv_isa.specs.declared.instr.UOp.TheVariants.{Lui, Auipc}
 use Rattle.rv_isa.specs.declared.instr.Instr.{Instr}
 use Rattle.rv_isa.specs.declared.instr.Instr.TheVariants.{R, I, S, B, U, J, Ecall}
 use Rattle.rv_isa.specs.declared.parts.Parts.{Parts}
-use Rattle.rv_isa.specs.Rows.{r_row, i_row, shift_row, s_row, b_row}
-use Rattle.rv_isa.specs.Words.{IsInstr, word_of}
+use Rattle.rv_isa.specs.InstrRows.{r_row, i_row, shift_row, s_row, b_row}
+use Rattle.rv_isa.specs.InstrWords.{IsInstr, word_of}
 
 -- the first that is so
 abbrev pub first_of : {Op : Type 0} → (Op → Bool) → List Op → Option Op

@@ -1,7 +1,7 @@
 //! Words to instructions.
 
 ghost use Rattle.std.specs.Prelude.{◌≡◌, ◌⊎◌, ◌<◌, ◌^◌};
-ghost use Rattle.rv_isa.specs.Words.{IsInstr, fields_of, AreParts, Decodes, joined, fields_u};
+ghost use Rattle.rv_isa.specs.InstrWords.{IsInstr, fields_of, AreParts, Decodes, joined, fields_u};
 ghost use Rattle.rv_isa.specs.Decoded.{decoded, Reads, decoded_parts, decoded_r, decoded_s, decoded_b, decoded_i, decoded_ecall, signed, bits_j, upper};
 ghost use Rattle.rv_isa.specs.declared.instr.Instr.{Instr};
 

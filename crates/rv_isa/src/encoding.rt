@@ -1,7 +1,7 @@
 //! Instructions to words.
 
 ghost use Rattle.std.specs.Prelude.{◌≡◌, ◌<◌, ◌^◌, ◌%◌};
-ghost use Rattle.rv_isa.specs.Words.{IsInstr, word_of, fields_of, AreParts, fields_r, fields_i, fields_s, fields_b, fields_u, upper_j};
+ghost use Rattle.rv_isa.specs.InstrWords.{IsInstr, word_of, fields_of, AreParts, fields_r, fields_i, fields_s, fields_b, fields_u, upper_j};
 
 use crate::fields::join;
 use crate::immediates::{bits_12, bits_13, bits_21, bits_i};

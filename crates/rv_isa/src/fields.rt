@@ -1,7 +1,7 @@
 //! Words to their six fields, and back.
 
 ghost use Rattle.std.specs.Prelude.{◌≡◌};
-ghost use Rattle.rv_isa.specs.Words.{joined, AreParts};
+ghost use Rattle.rv_isa.specs.InstrWords.{joined, AreParts};
 
 use crate::parts::Parts;
 

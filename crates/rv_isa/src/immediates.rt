@@ -2,8 +2,8 @@
 
 ghost use Rattle.std.specs.Prelude.{◌≡◌, ◌<◌, ◌^◌, ◌%◌, IsTrue};
 ghost use Rattle.rv_isa.specs.Decoded.{immediate_i, signed, takes_bits};
-ghost use Rattle.rv_isa.specs.Rows.{shift_row};
-ghost use Rattle.rv_isa.specs.Words.{twos, twelve, FitsI, IsFrom, IsEven};
+ghost use Rattle.rv_isa.specs.InstrRows.{shift_row};
+ghost use Rattle.rv_isa.specs.InstrWords.{twos, twelve, FitsI, IsFrom, IsEven};
 
 use crate::instr::IOp;
 

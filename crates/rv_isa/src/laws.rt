@@ -2,7 +2,7 @@
 
 ghost use Rattle.std.specs.Prelude.{◌≡◌, Some};
 ghost use Rattle.rv_isa.specs.Decoded.{decoded};
-ghost use Rattle.rv_isa.specs.Words.{IsInstr, word_of};
+ghost use Rattle.rv_isa.specs.InstrWords.{IsInstr, word_of};
 ghost use Rattle.rv_isa.specs.declared.instr.Instr.{Instr};
 
 /// No two instructions have one word.

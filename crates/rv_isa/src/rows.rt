@@ -1,8 +1,8 @@
 //! The table of instructions, forwards and backwards.
 
 ghost use Rattle.std.specs.Prelude.{◌≡◌, ◌≢◌, ◌<◌, ◌^◌, ℕ, ℤ, MatchOption, IsTrue};
-ghost use Rattle.rv_isa.specs.Rows.{r_row, i_row, shift_row, s_row, b_row, u_row};
-ghost use Rattle.rv_isa.specs.Words.{FitsI, twelve};
+ghost use Rattle.rv_isa.specs.InstrRows.{r_row, i_row, shift_row, s_row, b_row, u_row};
+ghost use Rattle.rv_isa.specs.InstrWords.{FitsI, twelve};
 ghost use Rattle.rv_isa.specs.Decoded.{op_r, op_i, op_s, op_b, takes_bits};
 ghost use Rattle.rv_isa.specs.declared.instr.ROp.{ROp};
 ghost use Rattle.rv_isa.specs.declared.instr.IOp.{IOp};

@@ -12,17 +12,17 @@ use Rattle.sil_model.specs.Memory as abstract
 use Rattle.sil_model.specs.Memory.{FitsDescr}
 use Rattle.sil_model.specs.Access.{cell_number, with_cell, with_cells, put_cell, set_descr_at}
 use Rattle.sil_model.specs.Integers.{within}
-use Rattle.sil_micro.specs.States.{held}
+use Rattle.sil_micro.specs.MicroStates.{held}
 use Rattle.sil_micro.specs.Operations.{store}
-use Rattle.rv_emulate.specs.Memory.{Memory, stored}
-use Rattle.rv_emulate.specs.States.{register}
-use Rattle.rv_emulate.specs.Values.{sum64, s_width}
-use Rattle.rv_straight.specs.Effects.{Value, Leaves}
+use Rattle.rv_emulate.specs.EmulatorMemory.{Memory, stored}
+use Rattle.rv_emulate.specs.EmulatorStates.{register}
+use Rattle.rv_emulate.specs.InstrValues.{sum64, s_width}
+use Rattle.rv_straight.specs.InstrEffects.{Value, Leaves}
 use Rattle.rv_straight.specs.Registers.{read}
 use Rattle.rv_straight.specs.Straight.{◌▸◌}
 use Rattle.rv_straight.proofs.Reaching.{start, straight}
 use Rattle.rv_straight.proofs.Leaps.{code_from}
-use Rattle.rv_routines.specs.Fields.{bits_of, store_op}
+use Rattle.rv_routines.specs.FieldCodes.{bits_of, store_op}
 use Rattle.rv_routines.specs.Routines.{IsRoutine}
 use Rattle.rv_routines.specs.Tests.{open_test, opened}
 use Rattle.rv_routines.proofs.Cells.{place_of_number, few_bytes}

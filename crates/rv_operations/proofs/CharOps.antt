@@ -13,13 +13,13 @@ use Rattle.layout_params.proofs.LegalLayouts.{legal}
 use Rattle.sil_model.specs.Memory.{FitsChars}
 use Rattle.sil_model.specs.Access.{char_at, set_char_at, chars_or_zeros, with_cell}
 use Rattle.sil_model.proofs.Keeps.{all_at}
-use Rattle.sil_micro.specs.States.{held}
+use Rattle.sil_micro.specs.MicroStates.{held}
 use Rattle.sil_micro.specs.Operations.{load_char, store}
-use Rattle.sil_micro.specs.Words.{low_byte, unsigned}
-use Rattle.rv_emulate.specs.Memory.{loaded, stored}
-use Rattle.rv_emulate.specs.States.{register}
-use Rattle.rv_emulate.specs.Values.{sum64}
-use Rattle.rv_straight.specs.Effects.{Value, Leaves}
+use Rattle.sil_micro.specs.MicroWords.{low_byte, unsigned}
+use Rattle.rv_emulate.specs.EmulatorMemory.{loaded, stored}
+use Rattle.rv_emulate.specs.EmulatorStates.{register}
+use Rattle.rv_emulate.specs.InstrValues.{sum64}
+use Rattle.rv_straight.specs.InstrEffects.{Value, Leaves}
 use Rattle.rv_straight.specs.Straight.{◌▸◌}
 use Rattle.rv_straight.proofs.Reaching.{start, straight}
 use Rattle.rv_straight.proofs.Leaps.{code_from}

@@ -7,15 +7,15 @@ use Rattle.rv_isa.specs.declared.instr.UOp.TheVariants.{Auipc}
 use Rattle.rv_isa.specs.declared.instr.Instr.{Instr}
 use Rattle.rv_isa.specs.declared.instr.Instr.TheVariants.{I, U}
 use Rattle.sil_model.specs.Memory as abstract
-use Rattle.sil_micro.specs.States.{Setting, Micro, held}
+use Rattle.sil_micro.specs.MicroStates.{Setting, Micro, held}
 use Rattle.sil_micro.specs.Operations.{Effect, On, To, ToReturn, Over, Stuck, undefined}
 use Rattle.image_file.specs.Image.{Image}
 use Rattle.rv_emulate.specs.declared.end.CpuEnd.TheVariants.{Undefined}
-use Rattle.rv_emulate.specs.Memory.{Memory}
-use Rattle.rv_emulate.specs.States as emulator
-use Rattle.rv_emulate.specs.States.{State, Ended, register}
-use Rattle.rv_emulate.specs.Values.{sum64}
-use Rattle.rv_straight.specs.Ways.{Comes, IsBetween}
+use Rattle.rv_emulate.specs.EmulatorMemory.{Memory}
+use Rattle.rv_emulate.specs.EmulatorStates as emulator
+use Rattle.rv_emulate.specs.EmulatorStates.{State, Ended, register}
+use Rattle.rv_emulate.specs.InstrValues.{sum64}
+use Rattle.rv_straight.specs.InstalledWays.{Comes, IsBetween}
 use Rattle.rv_straight.specs.Registers.{Writes, read, are}
 use Rattle.rv_straight.specs.Constants.{lower_of}
 use Rattle.rv_straight.specs.Jumps.{distance, far_upper}
@@ -25,7 +25,7 @@ use Rattle.rv_straight.proofs.Registers.{read_kept}
 use Rattle.rv_routines.specs.Routines.{IsRoutine}
 use Rattle.rv_routines.proofs.Calling.{Returned, Called, CoversScratch, called}
 use Rattle.rv_operations.specs.Homes.{home, is_temporary}
-use Rattle.rv_operations.specs.Places.{Places}
+use Rattle.rv_operations.specs.CodePlaces.{Places}
 use Rattle.rv_operations.specs.StandsFor.{StandsFor}
 use Rattle.rv_operations.specs.Does.{Does, ComesBack, Begins, return_place}
 use Rattle.rv_operations.proofs.Standing.{home_kept}

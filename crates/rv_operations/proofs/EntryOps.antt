@@ -4,14 +4,14 @@ use Rattle.std.specs.Prelude.{ℤ}
 use Rattle.std.specs.Int.{w64, cast_signed, cast_unsigned}
 use Rattle.std.proofs.lemmas.Int.{to_z-of_z}
 use Rattle.sil_model.specs.Access.{◌>>=◌}
-use Rattle.sil_micro.specs.States.{Setting, Micro, held}
+use Rattle.sil_micro.specs.MicroStates.{Setting, Micro, held}
 use Rattle.sil_micro.specs.Operations.{entered_statement, jump_entry}
 use Rattle.image_file.specs.Image.{Image}
 use Rattle.rv_emulate.specs.declared.end.CpuEnd.TheVariants.{Undefined}
-use Rattle.rv_emulate.specs.States.{State, On, Ended, register}
-use Rattle.rv_straight.specs.Ways.{Comes}
+use Rattle.rv_emulate.specs.EmulatorStates.{State, On, Ended, register}
+use Rattle.rv_straight.specs.InstalledWays.{Comes}
 use Rattle.rv_straight.specs.Registers.{Writes, Knows}
-use Rattle.rv_straight.specs.Effects.{Value}
+use Rattle.rv_straight.specs.InstrEffects.{Value}
 use Rattle.rv_straight.specs.Straight.{at, ◌▸◌}
 use Rattle.rv_straight.specs.Reaching.{Reaches}
 use Rattle.rv_straight.proofs.Ways.{then_comes, comes_within}
@@ -19,7 +19,7 @@ use Rattle.rv_straight.proofs.Registers.{read_kept, knows_write}
 use Rattle.rv_straight.proofs.Leaps.{half_way}
 use Rattle.rv_straight.proofs.Reaching.{start, straight, leaps}
 use Rattle.rv_operations.specs.Homes.{is_temporary}
-use Rattle.rv_operations.specs.Codes.{entry_code}
+use Rattle.rv_operations.specs.OpCodes.{entry_code}
 use Rattle.rv_operations.specs.Does.{Does, ComesBack, Begins}
 use Rattle.rv_operations.specs.Switch.{Switches, IsSwitch, LawOfJumpEntry, LawOfJumpReturn}
 use Rattle.rv_operations.proofs.Standing.{stands_at}

@@ -9,17 +9,17 @@ use Rattle.layout_params.specs.Packing.{place_of, width_of}
 use Rattle.layout_params.proofs.LegalLayouts.{IsLegal, legal}
 use Rattle.sil_model.specs.Memory as abstract
 use Rattle.sil_model.specs.Access.{descr_at, field_of}
-use Rattle.sil_micro.specs.States.{Setting, Micro, held}
+use Rattle.sil_micro.specs.MicroStates.{Setting, Micro, held}
 use Rattle.sil_micro.specs.Operations.{load}
-use Rattle.rv_emulate.specs.Memory.{Memory, loaded}
-use Rattle.rv_emulate.specs.States.{register}
-use Rattle.rv_emulate.specs.Values.{sum64}
-use Rattle.rv_straight.specs.Effects.{i_effect, Gives, Value}
+use Rattle.rv_emulate.specs.EmulatorMemory.{Memory, loaded}
+use Rattle.rv_emulate.specs.EmulatorStates.{register}
+use Rattle.rv_emulate.specs.InstrValues.{sum64}
+use Rattle.rv_straight.specs.InstrEffects.{i_effect, Gives, Value}
 use Rattle.rv_straight.specs.Straight.{◌▸◌}
 use Rattle.rv_straight.proofs.Reaching.{start, straight}
 use Rattle.rv_straight.proofs.Leaps.{code_from}
 use Rattle.rv_routines.specs.Routines.{IsRoutine, kept}
-use Rattle.rv_routines.specs.Fields.{load_op}
+use Rattle.rv_routines.specs.FieldCodes.{load_op}
 use Rattle.rv_routines.specs.Tests.{check_test}
 use Rattle.rv_routines.proofs.Cells.{IsPlace, offset, place_of_found, few_bytes}
 use Rattle.rv_routines.proofs.FieldPlaces.{span}

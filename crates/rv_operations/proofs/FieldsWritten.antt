@@ -15,29 +15,29 @@ use Rattle.layout_params.proofs.LegalLayouts.{legal}
 use Rattle.sil_model.specs.Memory as abstract
 use Rattle.sil_model.specs.Access.{descr_at, cell_number, with_cell, with_cells, put_cell, set_descr_at}
 use Rattle.sil_model.specs.Integers.{within}
-use Rattle.sil_micro.specs.States.{Setting, Micro, held}
+use Rattle.sil_micro.specs.MicroStates.{Setting, Micro, held}
 use Rattle.sil_micro.specs.Operations.{store, On}
 use Rattle.rv_isa.specs.declared.instr.Instr.TheVariants.{S}
 use Rattle.image_file.specs.Image.{Image}
-use Rattle.rv_emulate.specs.Memory.{stored}
-use Rattle.rv_emulate.specs.States.{State, register}
-use Rattle.rv_emulate.specs.Values.{sum64, s_width}
-use Rattle.rv_straight.specs.Effects.{Value, Leaves}
+use Rattle.rv_emulate.specs.EmulatorMemory.{stored}
+use Rattle.rv_emulate.specs.EmulatorStates.{State, register}
+use Rattle.rv_emulate.specs.InstrValues.{sum64, s_width}
+use Rattle.rv_straight.specs.InstrEffects.{Value, Leaves}
 use Rattle.rv_straight.specs.Registers.{IsFile, Keeps, read}
 use Rattle.rv_straight.specs.Straight.{◌▸◌}
 use Rattle.rv_straight.specs.Code.{IsNext}
 use Rattle.rv_straight.proofs.Reaching.{start, straight}
 use Rattle.rv_straight.proofs.Leaps.{code_from}
-use Rattle.rv_routines.specs.Fields.{bits_of, store_op}
+use Rattle.rv_routines.specs.FieldCodes.{bits_of, store_op}
 use Rattle.rv_routines.specs.Routines.{IsRoutine, kept}
 use Rattle.rv_routines.specs.Tests.{check_test, fit_test}
 use Rattle.rv_routines.proofs.Cells.{IsPlace, offset}
 use Rattle.rv_routines.proofs.Checking.{lt_of}
 use Rattle.rv_routines.proofs.FieldStores.{set_field, flag_within, value_within, new_memory, stores, holds_new}
 use Rattle.rv_operations.specs.Homes.{home, is_temporary}
-use Rattle.rv_operations.specs.Places.{Places}
+use Rattle.rv_operations.specs.CodePlaces.{Places}
 use Rattle.rv_operations.specs.StandsFor.{StandsFor}
-use Rattle.rv_operations.specs.Codes.{call_with_code}
+use Rattle.rv_operations.specs.OpCodes.{call_with_code}
 use Rattle.rv_operations.specs.Does.{Does, Begins}
 use Rattle.rv_operations.specs.Laws.{LawOfStoreField}
 use Rattle.rv_operations.proofs.Standing.{home_kept, with_memory}

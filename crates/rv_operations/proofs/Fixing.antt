@@ -3,11 +3,11 @@ use Rattle.std.proofs.Common.{◌≡◌, ℕ, ◌+◌, ◌*◌, ◌≤◌, List,
 use Rattle.std.specs.Int.{w64, cast_unsigned}
 use Rattle.sil_micro.specs.declared.op.Fixed.{Fixed}
 use Rattle.sil_micro.specs.declared.op.Fixed.TheVariants.{Number, Descr, Obsiz, Sttl, Ttl, Date, Hidden, Dynamic, Stack, Cells}
-use Rattle.sil_micro.specs.States.{Setting, Micro}
+use Rattle.sil_micro.specs.MicroStates.{Setting, Micro}
 use Rattle.sil_micro.specs.Operations.{fixed, On as Onward}
-use Rattle.rv_emulate.specs.States.{State, On}
+use Rattle.rv_emulate.specs.EmulatorStates.{State, On}
 use Rattle.rv_isa.specs.declared.instr.Instr.{Instr}
-use Rattle.rv_straight.specs.Ways.{Comes}
+use Rattle.rv_straight.specs.InstalledWays.{Comes}
 use Rattle.rv_straight.specs.Registers.{Knows}
 use Rattle.rv_straight.specs.Straight.{at}
 use Rattle.rv_straight.specs.Constants.{constant_code, constant_length}

@@ -5,12 +5,12 @@ use Rattle.std.specs.Int.{w64, cast_unsigned}
 use Rattle.rv_isa.specs.declared.instr.Instr.{Instr}
 use Rattle.sil_micro.specs.declared.op.Target.{Target}
 use Rattle.sil_micro.specs.declared.op.Test.{Test}
-use Rattle.sil_micro.specs.States.{Setting, Micro, held}
+use Rattle.sil_micro.specs.MicroStates.{Setting, Micro, held}
 use Rattle.sil_micro.specs.Operations.{jump_if}
-use Rattle.sil_micro.specs.Words.{holds}
+use Rattle.sil_micro.specs.MicroWords.{holds}
 use Rattle.image_file.specs.Image.{Image}
-use Rattle.rv_emulate.specs.States.{State, register}
-use Rattle.rv_emulate.specs.Values.{taken}
+use Rattle.rv_emulate.specs.EmulatorStates.{State, register}
+use Rattle.rv_emulate.specs.InstrValues.{taken}
 use Rattle.rv_straight.specs.Registers.{Writes, written}
 use Rattle.rv_straight.specs.Straight.{at}
 use Rattle.rv_straight.specs.Jumps.{inverse, leap_code, jump_if_code}
@@ -21,8 +21,8 @@ use Rattle.rv_straight.proofs.Leaps.{half_way}
 use Rattle.rv_straight.proofs.Reaching.{start, passes, leaves, leaps}
 use Rattle.rv_straight.proofs.JumpsIf.{inverse_is}
 use Rattle.rv_operations.specs.Homes.{home, is_temporary}
-use Rattle.rv_operations.specs.Places.{Places, target_place}
-use Rattle.rv_operations.specs.Codes.{branch_op}
+use Rattle.rv_operations.specs.CodePlaces.{Places, target_place}
+use Rattle.rv_operations.specs.OpCodes.{branch_op}
 use Rattle.rv_operations.specs.StandsFor.{StandsFor}
 use Rattle.rv_operations.specs.Does.{Does, Begins}
 use Rattle.rv_operations.specs.Laws.{LawOfJump, LawOfJumpIf}

@@ -12,13 +12,13 @@ use Rattle.sil_model.specs.Memory.{Memory}
 use Rattle.sil_model.specs.Access.{with_cell, with_cells}
 use Rattle.sil_model.specs.CellWords.{kind_of, kind_at, put_kind, set_kind_at}
 use Rattle.sil_model.specs.Start.{zero_cell}
-use Rattle.sil_micro.specs.States.{held}
+use Rattle.sil_micro.specs.MicroStates.{held}
 use Rattle.sil_micro.specs.Operations.{load, store}
-use Rattle.rv_emulate.specs.Memory as emulator
-use Rattle.rv_emulate.specs.Memory.{loaded}
-use Rattle.rv_emulate.specs.States.{register}
-use Rattle.rv_emulate.specs.Values.{sum64}
-use Rattle.rv_straight.specs.Effects.{Value}
+use Rattle.rv_emulate.specs.EmulatorMemory as emulator
+use Rattle.rv_emulate.specs.EmulatorMemory.{loaded}
+use Rattle.rv_emulate.specs.EmulatorStates.{register}
+use Rattle.rv_emulate.specs.InstrValues.{sum64}
+use Rattle.rv_straight.specs.InstrEffects.{Value}
 use Rattle.rv_straight.specs.Registers.{read}
 use Rattle.rv_straight.specs.Straight.{◌▸◌}
 use Rattle.rv_straight.proofs.Reaching.{start, straight}

@@ -1,15 +1,15 @@
 -- Constants, copies and sums.
 use Rattle.std.proofs.Common.{◌+◌, [], ◌∷◌, refl, ap, ◌∙◌, arith}
 use Rattle.std.specs.Int.{w64, cast_unsigned}
-use Rattle.sil_micro.specs.States.{held}
-use Rattle.sil_micro.specs.Words.{computed}
-use Rattle.rv_emulate.specs.States.{register}
-use Rattle.rv_emulate.specs.Values.{r_value}
-use Rattle.rv_straight.specs.Effects.{Value}
+use Rattle.sil_micro.specs.MicroStates.{held}
+use Rattle.sil_micro.specs.MicroWords.{computed}
+use Rattle.rv_emulate.specs.EmulatorStates.{register}
+use Rattle.rv_emulate.specs.InstrValues.{r_value}
+use Rattle.rv_straight.specs.InstrEffects.{Value}
 use Rattle.rv_straight.specs.Straight.{◌▸◌}
 use Rattle.rv_straight.proofs.Reaching.{start}
 use Rattle.rv_operations.specs.Homes.{home}
-use Rattle.rv_operations.specs.Codes.{arith_op}
+use Rattle.rv_operations.specs.OpCodes.{arith_op}
 use Rattle.rv_operations.specs.Laws.{LawOfCopy, LawOfArith}
 use Rattle.rv_operations.proofs.Doing.{moves_from, unsigned_small}
 use Rattle.rv_operations.proofs.Setting.{sets}

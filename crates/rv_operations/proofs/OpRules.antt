@@ -11,7 +11,7 @@ use Rattle.sil_micro.specs.declared.op.Values.TheVariants as values
 use Rattle.rv_straight.proofs.Numbers.{length-constant}
 use Rattle.rv_operations.specs.declared.places.Site.{Site}
 use Rattle.rv_operations.specs.Homes.{home}
-use Rattle.rv_operations.specs.Codes.{op_code, text_length, values_length}
+use Rattle.rv_operations.specs.OpCodes.{op_code, text_length, values_length}
 use Rattle.rv_operations.specs.Laws.{LawOfLengths}
 
 -- ---- how many instructions an operation has

@@ -3,7 +3,7 @@ use Rattle.std.proofs.Common.{◌≡◌, ℕ, ◌+◌, ◌-◌, ◌^◌, ◌<◌
 use Rattle.std.specs.Prelude.{pos, IsTrue}
 use Rattle.rv_isa.specs.declared.instr.Instr.{Instr}
 use Rattle.rv_isa.specs.declared.instr.Instr.TheVariants.{I}
-use Rattle.rv_isa.specs.Words.{IsInstr}
+use Rattle.rv_isa.specs.InstrWords.{IsInstr}
 use Rattle.layout_params.specs.Packing.{place_of, width_of}
 use Rattle.layout_params.specs.declared.cell.Field.TheVariants as field
 use Rattle.layout_params.proofs.LegalLayouts.{legal}
@@ -18,13 +18,13 @@ use Rattle.rv_straight.specs.Code.{AreInstrs}
 use Rattle.rv_straight.specs.Constants.{upper_of}
 use Rattle.rv_straight.specs.Jumps.{distance}
 use Rattle.rv_straight.proofs.AreInstrs.{lower_fits, far_fits, constants, leaps}
-use Rattle.rv_routines.specs.Fields.{load_op}
+use Rattle.rv_routines.specs.FieldCodes.{load_op}
 use Rattle.rv_routines.proofs.FieldPlaces.{span, place_below}
 use Rattle.rv_operations.specs.declared.places.Site.{Site}
 use Rattle.rv_operations.specs.declared.places.Links.{Links}
 use Rattle.rv_operations.specs.Homes.{home}
-use Rattle.rv_operations.specs.Codes.{moved_to, text_code, values_code, call_unit_code, unit_call_code}
-use Rattle.rv_operations.specs.Sites.{IsText}
+use Rattle.rv_operations.specs.OpCodes.{moved_to, text_code, values_code, call_unit_code, unit_call_code}
+use Rattle.rv_operations.specs.OpSites.{IsText}
 use Rattle.rv_operations.specs.Laws.{LawOfOpWords}
 use Rattle.rv_operations.proofs.Standing.{home_small}
 

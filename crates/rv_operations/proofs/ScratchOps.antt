@@ -10,12 +10,12 @@ use Rattle.layout_params.specs.Sizes.{Sizes}
 use Rattle.layout_params.proofs.LegalLayouts.{legal}
 use Rattle.layout_params.proofs.PackingLemmas.{number_here, number_there}
 use Rattle.sil_model.specs.Memory as abstract
-use Rattle.sil_micro.specs.States.{Setting, Micro, held}
+use Rattle.sil_micro.specs.MicroStates.{Setting, Micro, held}
 use Rattle.sil_micro.specs.Operations.{load, store_scratch, scratch_word, set_scratch, with_word, scratch_words}
-use Rattle.rv_emulate.specs.Memory.{Memory, loaded, stored}
-use Rattle.rv_emulate.specs.States.{State, register}
-use Rattle.rv_emulate.specs.Values.{sum64}
-use Rattle.rv_straight.specs.Effects.{Value, Leaves}
+use Rattle.rv_emulate.specs.EmulatorMemory.{Memory, loaded, stored}
+use Rattle.rv_emulate.specs.EmulatorStates.{State, register}
+use Rattle.rv_emulate.specs.InstrValues.{sum64}
+use Rattle.rv_straight.specs.InstrEffects.{Value, Leaves}
 use Rattle.rv_straight.specs.Registers.{IsFile, Keeps, Writes, read}
 use Rattle.rv_straight.specs.Straight.{◌▸◌}
 use Rattle.rv_straight.proofs.Registers.{read_kept}

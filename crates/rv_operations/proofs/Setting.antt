@@ -4,15 +4,15 @@ use Rattle.std.specs.Prelude.{ℤ, FitsSigned}
 use Rattle.std.specs.Int.{w64, cast_unsigned}
 use Rattle.rv_isa.specs.declared.instr.Instr.{Instr}
 use Rattle.sil_model.specs.Memory as abstract
-use Rattle.sil_micro.specs.States.{Setting, Micro}
+use Rattle.sil_micro.specs.MicroStates.{Setting, Micro}
 use Rattle.sil_micro.specs.Operations.{On}
 use Rattle.image_file.specs.Image.{Image}
-use Rattle.rv_emulate.specs.Memory.{Memory}
-use Rattle.rv_emulate.specs.States as emulator
-use Rattle.rv_emulate.specs.States.{State}
-use Rattle.rv_straight.specs.Ways.{Comes}
+use Rattle.rv_emulate.specs.EmulatorMemory.{Memory}
+use Rattle.rv_emulate.specs.EmulatorStates as emulator
+use Rattle.rv_emulate.specs.EmulatorStates.{State}
+use Rattle.rv_straight.specs.InstalledWays.{Comes}
 use Rattle.rv_straight.specs.Registers.{IsFile, Keeps, Writes, written, are, Knows}
-use Rattle.rv_straight.specs.Effects.{Given}
+use Rattle.rv_straight.specs.InstrEffects.{Given}
 use Rattle.rv_straight.specs.Straight.{at, Follow, writes_after, memory_after}
 use Rattle.rv_straight.specs.Code.{IsNext}
 use Rattle.rv_straight.specs.Reaching.{Reaches}
@@ -20,7 +20,7 @@ use Rattle.rv_straight.proofs.Registers.{read_here, read_other, read_kept}
 use Rattle.rv_straight.proofs.Reaching.{runs, knows, ends}
 use Rattle.rv_routines.specs.Holds.{HoldsMemory}
 use Rattle.rv_operations.specs.Homes.{home, is_temporary}
-use Rattle.rv_operations.specs.Places.{Places}
+use Rattle.rv_operations.specs.CodePlaces.{Places}
 use Rattle.rv_operations.specs.StandsFor.{StandsFor}
 use Rattle.rv_operations.specs.Does.{Does}
 use Rattle.rv_operations.proofs.Standing.{home_positive, with_register, with_memory, stands_set, stands_stored}

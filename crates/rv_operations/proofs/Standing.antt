@@ -5,10 +5,10 @@ use Rattle.std.specs.Int.{w64, cast_unsigned}
 use Rattle.std.proofs.lemmas.Bool.{cases_eq}
 use Rattle.sil_base.specs.Bytes.{number, piece}
 use Rattle.sil_model.specs.Memory as abstract
-use Rattle.sil_micro.specs.States.{Setting, Micro, held, put}
+use Rattle.sil_micro.specs.MicroStates.{Setting, Micro, held, put}
 use Rattle.sil_micro.proofs.Registers.{what_is_held}
-use Rattle.rv_emulate.specs.Memory.{Memory}
-use Rattle.rv_emulate.specs.States.{State, register}
+use Rattle.rv_emulate.specs.EmulatorMemory.{Memory}
+use Rattle.rv_emulate.specs.EmulatorStates.{State, register}
 use Rattle.rv_straight.specs.Registers.{IsFile, Keeps}
 use Rattle.rv_routines.specs.Holds.{HoldsMemory}
 use Rattle.rv_operations.specs.Homes.{home, is_temporary}

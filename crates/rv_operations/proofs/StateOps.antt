@@ -16,12 +16,12 @@ use Rattle.layout_params.proofs.LegalLayouts.{legal}
 use Rattle.sil_model.specs.States as abstract
 use Rattle.sil_model.specs.WellFormed.{IsTable}
 use Rattle.image_file.specs.Image.{Image}
-use Rattle.sil_micro.specs.States.{Setting, Micro, held}
+use Rattle.sil_micro.specs.MicroStates.{Setting, Micro, held}
 use Rattle.sil_micro.specs.Operations.{On, load, store_state, state_word, set_state_word}
-use Rattle.rv_emulate.specs.Memory.{Memory, loaded}
-use Rattle.rv_emulate.specs.States.{State, register}
-use Rattle.rv_emulate.specs.Values.{sum64}
-use Rattle.rv_straight.specs.Effects.{Value}
+use Rattle.rv_emulate.specs.EmulatorMemory.{Memory, loaded}
+use Rattle.rv_emulate.specs.EmulatorStates.{State, register}
+use Rattle.rv_emulate.specs.InstrValues.{sum64}
+use Rattle.rv_straight.specs.InstrEffects.{Value}
 use Rattle.rv_straight.specs.Registers.{IsFile, Keeps, Writes, read}
 use Rattle.rv_straight.specs.Straight.{◌▸◌}
 use Rattle.rv_straight.specs.Code.{IsNext}
@@ -37,8 +37,8 @@ use Rattle.rv_routines.proofs.Checking.{lt_of}
 use Rattle.rv_routines.proofs.Regions.{load_scratch}
 use Rattle.rv_operations.specs.Homes.{home, is_temporary}
 use Rattle.rv_operations.specs.StandsFor.{StandsFor, HoldsWords}
-use Rattle.rv_operations.specs.Tables.{table_part}
-use Rattle.rv_operations.specs.Places.{Places}
+use Rattle.rv_operations.specs.EntryBytes.{table_part}
+use Rattle.rv_operations.specs.CodePlaces.{Places}
 use Rattle.rv_operations.specs.Does.{Does}
 use Rattle.rv_operations.specs.WordLaws.{LawOfLoadState, LawOfStoreState}
 use Rattle.rv_operations.proofs.Standing.{home_kept, stands_at}

@@ -2,15 +2,15 @@
 use Rattle.std.proofs.Common.{◌≡◌, ◌≢◌, ℕ, zero, suc, ◌+◌, ◌-◌, ◌*◌, ◌^◌, ◌<◌, ◌≤◌, List, [], ◌∷◌, length, Option, Some, None, Bool, true, false, ◌==◌, refl, ap, subst, ◌∙◌, arith}
 use Rattle.std.specs.Prelude.{ℤ, pos, negsuc, nat_lt, not}
 use Rattle.std.specs.Int.{w64, cast_unsigned}
-use Rattle.sil_micro.specs.States.{Setting, Micro, held}
+use Rattle.sil_micro.specs.MicroStates.{Setting, Micro, held}
 use Rattle.sil_micro.specs.Operations.{begin_if, end_by, unit_fault}
 use Rattle.image_file.specs.Image.{Image}
 use Rattle.rv_emulate.specs.declared.end.CpuEnd.TheVariants.{Budget}
-use Rattle.rv_emulate.specs.Calls as calls
-use Rattle.rv_emulate.specs.States.{State, Ended, register}
-use Rattle.rv_emulate.specs.Values.{sum64, extended}
-use Rattle.rv_straight.specs.Ways.{Comes}
-use Rattle.rv_straight.specs.Effects.{Value}
+use Rattle.rv_emulate.specs.Ecalls as calls
+use Rattle.rv_emulate.specs.EmulatorStates.{State, Ended, register}
+use Rattle.rv_emulate.specs.InstrValues.{sum64, extended}
+use Rattle.rv_straight.specs.InstalledWays.{Comes}
+use Rattle.rv_straight.specs.InstrEffects.{Value}
 use Rattle.rv_straight.specs.Registers.{Writes, written}
 use Rattle.rv_straight.specs.Straight.{at, ◌▸◌}
 use Rattle.rv_straight.specs.Constants.{upper_of}
@@ -19,8 +19,8 @@ use Rattle.rv_straight.proofs.Registers.{read_other}
 use Rattle.rv_straight.proofs.Ways.{comes_within}
 use Rattle.rv_straight.proofs.Numbers.{constant_is}
 use Rattle.rv_straight.proofs.Reaching.{start, straight, passes, branches, ends, ends_by, ends_now, runs, knows}
-use Rattle.rv_operations.specs.Places.{Places}
-use Rattle.rv_operations.specs.Codes.{begin_code, end_code}
+use Rattle.rv_operations.specs.CodePlaces.{Places}
+use Rattle.rv_operations.specs.OpCodes.{begin_code, end_code}
 use Rattle.rv_operations.specs.Does.{Does, Begins}
 use Rattle.rv_operations.specs.Laws.{LawOfBegin, LawOfEnd}
 use Rattle.rv_operations.proofs.Standing.{stands_begun}

@@ -15,10 +15,10 @@ use Rattle.sil_micro.specs.declared.op.Arith.{Arith}
 use Rattle.sil_micro.specs.declared.op.Arith.TheVariants.{Add, Sub, Mul, MulHigh, And, Or, Div, Rem}
 use Rattle.sil_micro.specs.declared.op.Test.{Test}
 use Rattle.sil_micro.specs.declared.op.Test.TheVariants.{Eq, Ne, Lt, Ge, Ltu, Geu}
-use Rattle.sil_micro.specs.Words.{computed, holds, same_integer, unsigned, high_half, high_product, bits_of_both, bits_of_either, quotient, remainder, is_below_unsigned}
-use Rattle.rv_emulate.specs.Values.{r_value, taken, upper_half}
-use Rattle.rv_straight.specs.Effects.{r_effect, Gives, Value}
-use Rattle.rv_operations.specs.Codes.{arith_op, branch_op}
+use Rattle.sil_micro.specs.MicroWords.{computed, holds, same_integer, unsigned, high_half, high_product, bits_of_both, bits_of_either, quotient, remainder, is_below_unsigned}
+use Rattle.rv_emulate.specs.InstrValues.{r_value, taken, upper_half}
+use Rattle.rv_straight.specs.InstrEffects.{r_effect, Gives, Value}
+use Rattle.rv_operations.specs.OpCodes.{arith_op, branch_op}
 use Rattle.rv_operations.proofs.Doing.{unsigned_small}
 
 -- bits, read as signed

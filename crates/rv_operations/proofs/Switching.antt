@@ -6,14 +6,14 @@ use Rattle.std.proofs.lemmas.Nat.{le-div}
 use Rattle.sil_base.specs.declared.places.TheConstants.{FIRST_ENTRY}
 use Rattle.sil_model.specs.Access.{◌>>=◌}
 use Rattle.sil_micro.specs.Operations.{entered_statement}
-use Rattle.rv_isa.specs.Words.{twos}
+use Rattle.rv_isa.specs.InstrWords.{twos}
 use Rattle.image_file.specs.Image.{Image}
 use Rattle.rv_emulate.specs.declared.end.CpuEnd.TheVariants.{Undefined}
-use Rattle.rv_emulate.specs.States.{State, Outcome, On, Ended, register}
-use Rattle.rv_emulate.specs.Values.{sum64, extended}
-use Rattle.rv_straight.specs.Ways.{Comes, IsBetween}
+use Rattle.rv_emulate.specs.EmulatorStates.{State, Outcome, On, Ended, register}
+use Rattle.rv_emulate.specs.InstrValues.{sum64, extended}
+use Rattle.rv_straight.specs.InstalledWays.{Comes, IsBetween}
 use Rattle.rv_straight.specs.Registers.{IsFile, Writes, written, Knows}
-use Rattle.rv_straight.specs.Effects.{Value}
+use Rattle.rv_straight.specs.InstrEffects.{Value}
 use Rattle.rv_straight.specs.Straight.{at, ◌▸◌}
 use Rattle.rv_straight.specs.Code.{IsNext}
 use Rattle.rv_straight.specs.Constants.{upper_of, lower_of}

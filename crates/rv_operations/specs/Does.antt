@@ -4,17 +4,17 @@ use Rattle.layout_params.specs.Parameters.{AreLegalSettings}
 use Rattle.sil_model.specs.declared.end.End.{End}
 use Rattle.sil_model.specs.declared.end.End.TheVariants as ends
 use Rattle.sil_model.specs.Access.{◌>>=◌}
-use Rattle.sil_micro.specs.States.{Setting, Micro}
+use Rattle.sil_micro.specs.MicroStates.{Setting, Micro}
 use Rattle.sil_micro.specs.Operations.{Effect, On, To, ToReturn, Over, Stuck, entered_statement}
 use Rattle.image_file.specs.Image.{Image}
 use Rattle.rv_isa.specs.declared.instr.Instr.{Instr}
 use Rattle.rv_emulate.specs.declared.end.CpuEnd.{CpuEnd}
 use Rattle.rv_emulate.specs.declared.end.CpuEnd.TheVariants.{Exit, Trap, Undefined, UnitFault, Budget, Memory}
-use Rattle.rv_emulate.specs.States as emulator
-use Rattle.rv_emulate.specs.States.{State, Ended}
-use Rattle.rv_straight.specs.Ways.{Comes}
+use Rattle.rv_emulate.specs.EmulatorStates as emulator
+use Rattle.rv_emulate.specs.EmulatorStates.{State, Ended}
+use Rattle.rv_straight.specs.InstalledWays.{Comes}
 use Rattle.rv_straight.specs.Code.{IsNext}
-use Rattle.rv_operations.specs.Places.{Places, target_place}
+use Rattle.rv_operations.specs.CodePlaces.{Places, target_place}
 use Rattle.rv_operations.specs.StandsFor.{StandsFor}
 
 -- an end of the machine in the emulator's words; no other end of the emulator is the same as one of the machine

@@ -11,18 +11,18 @@ use Rattle.sil_micro.specs.declared.op.Op.TheVariants.{Const, Copy, Arith as Ari
 use Rattle.sil_micro.specs.declared.op.Target.{Target}
 use Rattle.sil_micro.specs.declared.op.Test.{Test}
 use Rattle.sil_micro.specs.Operations.{act, fixed}
-use Rattle.sil_micro.specs.States.{Setting, Micro}
+use Rattle.sil_micro.specs.MicroStates.{Setting, Micro}
 use Rattle.image_file.specs.Image.{Image}
-use Rattle.rv_emulate.specs.States.{State}
+use Rattle.rv_emulate.specs.EmulatorStates.{State}
 use Rattle.rv_straight.specs.Constants.{constant_code, constant_length}
 use Rattle.rv_straight.specs.Jumps.{leap_code, jump_if_code}
 use Rattle.rv_operations.specs.Homes.{home}
 use Rattle.rv_straight.specs.Code.{AreInstrs}
-use Rattle.rv_operations.specs.Sites.{CanStand, HasRules}
-use Rattle.rv_operations.specs.Places.{Places, target_place}
+use Rattle.rv_operations.specs.OpSites.{CanStand, HasRules}
+use Rattle.rv_operations.specs.CodePlaces.{Places, target_place}
 use Rattle.rv_operations.specs.Links.{fixed_bits}
-use Rattle.rv_operations.specs.Codes.{copy_code, arith_code, branch_op, load_field_code, store_field_code, store_cell_code, begin_code, end_code, op_code, op_length}
-use Rattle.rv_operations.specs.Routines.{HasRoutines}
+use Rattle.rv_operations.specs.OpCodes.{copy_code, arith_code, branch_op, load_field_code, store_field_code, store_cell_code, begin_code, end_code, op_code, op_length}
+use Rattle.rv_operations.specs.StandingRoutines.{HasRoutines}
 use Rattle.rv_operations.specs.Does.{Does, Begins}
 
 abbrev pub LawOfConst : Type 0

@@ -1,11 +1,11 @@
 pub mod Homes
-pub mod Tables
+pub mod EntryBytes
 pub mod StandsFor
-pub mod Places
+pub mod CodePlaces
 pub mod Links
-pub mod Codes
-pub mod Routines
-pub mod Sites
+pub mod OpCodes
+pub mod StandingRoutines
+pub mod OpSites
 pub mod Does
 pub mod Laws
 pub mod WordLaws

@@ -12,7 +12,7 @@ use Rattle.sil_micro.specs.declared.op.Op.TheVariants.{Const, Jump, JumpIf, Unit
 use Rattle.sil_micro.specs.declared.op.Text.{Text}
 use Rattle.sil_micro.specs.declared.op.Text.TheVariants.{Format}
 use Rattle.rv_operations.specs.declared.places.Links.{Links}
-use Rattle.rv_operations.specs.Places.{Places, target_place}
+use Rattle.rv_operations.specs.CodePlaces.{Places, target_place}
 
 abbrev pub cell_place : Settings → ℕ → ℕ
 cell_place settings cells = FIRST_CELL + cells * settings.sizes.descr

@@ -5,14 +5,14 @@ use Rattle.std.specs.Int.{w64, cast_unsigned}
 use Rattle.sil_base.specs.Bytes.{number, piece}
 use Rattle.layout_params.specs.Areas.{all_cells}
 use Rattle.sil_model.specs.WellFormed.{IsTable}
-use Rattle.sil_micro.specs.States.{Setting, Micro, held}
+use Rattle.sil_micro.specs.MicroStates.{Setting, Micro, held}
 use Rattle.sil_micro.specs.Operations.{scratch_words}
-use Rattle.rv_emulate.specs.Memory.{Memory}
-use Rattle.rv_emulate.specs.States.{State, register}
+use Rattle.rv_emulate.specs.EmulatorMemory.{Memory}
+use Rattle.rv_emulate.specs.EmulatorStates.{State, register}
 use Rattle.rv_straight.specs.Registers.{IsFile}
 use Rattle.rv_routines.specs.Holds.{HoldsMemory}
 use Rattle.rv_operations.specs.Homes.{home}
-use Rattle.rv_operations.specs.Tables.{table_part}
+use Rattle.rv_operations.specs.EntryBytes.{table_part}
 
 -- the scratch region keeps the top of the stack and the one below in its first two words, and the scratch words behind them
 pub record HoldsWords (u : Micro) (memory : Memory) : Type 0 where

@@ -9,19 +9,19 @@ use Rattle.rv_isa.specs.declared.instr.Instr.{Instr}
 use Rattle.rv_isa.specs.declared.instr.Instr.TheVariants.{R, I, B, U, Ecall}
 use Rattle.sil_model.specs.Access.{◌>>=◌}
 use Rattle.sil_micro.specs.declared.op.Op.TheVariants.{JumpEntry, JumpReturn}
-use Rattle.sil_micro.specs.States.{Setting, Micro}
+use Rattle.sil_micro.specs.MicroStates.{Setting, Micro}
 use Rattle.sil_micro.specs.Operations.{entered_statement, act}
 use Rattle.image_file.specs.Image.{Image}
 use Rattle.rv_emulate.specs.declared.end.CpuEnd.TheVariants.{Undefined}
-use Rattle.rv_emulate.specs.States.{State, On, Ended, register}
-use Rattle.rv_straight.specs.Ways.{IsFree, Comes}
+use Rattle.rv_emulate.specs.EmulatorStates.{State, On, Ended, register}
+use Rattle.rv_straight.specs.InstalledWays.{IsFree, Comes}
 use Rattle.rv_straight.specs.Registers.{IsFile, Keeps}
 use Rattle.rv_straight.specs.Code.{IsApart}
 use Rattle.rv_straight.specs.Constants.{upper_of, lower_of}
 use Rattle.rv_straight.specs.Jumps.{distance, far_upper, leap_code}
 use Rattle.rv_routines.specs.Routines.{is_scratch}
-use Rattle.rv_operations.specs.Places.{Places}
-use Rattle.rv_operations.specs.Codes.{entry_code}
+use Rattle.rv_operations.specs.CodePlaces.{Places}
+use Rattle.rv_operations.specs.OpCodes.{entry_code}
 use Rattle.rv_operations.specs.Does.{Does, Begins}
 
 -- the number of the statement by its entry, for cells of d bytes and so many statements, and a jump into a table of two instructions a statement

@@ -3,12 +3,12 @@ use Rattle.std.specs.Prelude.{ℕ, ◌+◌, ◌^◌, ◌<◌, ◌≤◌, length,
 use Rattle.sil_micro.specs.declared.op.Area.TheVariants as areas
 use Rattle.sil_micro.specs.declared.op.Op.TheVariants.{LoadChar, StoreChar, LoadWord, StoreWord}
 use Rattle.sil_micro.specs.Operations.{act}
-use Rattle.sil_micro.specs.States.{Setting, Micro}
+use Rattle.sil_micro.specs.MicroStates.{Setting, Micro}
 use Rattle.image_file.specs.Image.{Image}
-use Rattle.rv_emulate.specs.States.{State}
-use Rattle.rv_operations.specs.Places.{Places}
-use Rattle.rv_operations.specs.Codes.{load_char_code, store_char_code, load_word_code, store_word_code}
-use Rattle.rv_operations.specs.Routines.{HasRoutines}
+use Rattle.rv_emulate.specs.EmulatorStates.{State}
+use Rattle.rv_operations.specs.CodePlaces.{Places}
+use Rattle.rv_operations.specs.OpCodes.{load_char_code, store_char_code, load_word_code, store_word_code}
+use Rattle.rv_operations.specs.StandingRoutines.{HasRoutines}
 use Rattle.rv_operations.specs.Does.{Does, Begins}
 
 -- a character is read in 17 instructions, and written in 28

@@ -1,7 +1,7 @@
 // The instructions that read and write cells.
 ghost use Rattle.std.specs.Prelude.{◌≡◌, ◌<◌, ◌^◌};
 ghost use Rattle.sil_micro.specs.declared.op.Op.TheVariants.{LoadChar, LoadField, StoreCell, StoreChar, StoreField};
-ghost use Rattle.rv_operations.specs.Codes.{instructions};
+ghost use Rattle.rv_operations.specs.OpCodes.{instructions};
 
 use crate::calling::{call_from, call_to};
 use crate::places::Site;
@@ -12,7 +12,7 @@ use rv_routines::{load_op, place_of, small, store_op, width_of};
 use rv_straight::{immediate, store};
 
 /// A field of the descriptor at an address.
-#[tactic(auto, unfolding(crate::specs::Codes::instructions))]
+#[tactic(auto, unfolding(crate::specs::OpCodes::instructions))]
 pub fn load_field<L: Layout>(layout: &L, site: &Site, field: Field, to: u8, at: u8) -> [Instr; 4]
     requires to { to < 16 }
     requires at { at < 16 }
@@ -35,7 +35,7 @@ pub fn load_field<L: Layout>(layout: &L, site: &Site, field: Field, to: u8, at: 
 }
 
 /// A store of the A field.
-#[tactic(auto, unfolding(crate::specs::Codes::instructions))]
+#[tactic(auto, unfolding(crate::specs::OpCodes::instructions))]
 pub fn store_a<L: Layout>(layout: &L, site: &Site, at: u8, from: u8) -> [Instr; 4]
     requires at { at < 16 }
     requires from { from < 16 }
@@ -53,7 +53,7 @@ pub fn store_a<L: Layout>(layout: &L, site: &Site, at: u8, from: u8) -> [Instr; 
 }
 
 /// A store of the F field, where the number fits.
-#[tactic(auto, unfolding(crate::specs::Codes::instructions))]
+#[tactic(auto, unfolding(crate::specs::OpCodes::instructions))]
 pub fn store_f<L: Layout>(layout: &L, site: &Site, at: u8, from: u8) -> [Instr; 5]
     requires at { at < 16 }
     requires from { from < 16 }
@@ -77,7 +77,7 @@ pub fn store_f<L: Layout>(layout: &L, site: &Site, at: u8, from: u8) -> [Instr; 
 }
 
 /// A store of the V field, where the number fits.
-#[tactic(auto, unfolding(crate::specs::Codes::instructions))]
+#[tactic(auto, unfolding(crate::specs::OpCodes::instructions))]
 pub fn store_v<L: Layout>(layout: &L, site: &Site, at: u8, from: u8) -> [Instr; 5]
     requires at { at < 16 }
     requires from { from < 16 }
@@ -101,7 +101,7 @@ pub fn store_v<L: Layout>(layout: &L, site: &Site, at: u8, from: u8) -> [Instr; 
 }
 
 /// A descriptor of three registers goes to the cell at an address.
-#[tactic(auto, unfolding(crate::specs::Codes::instructions))]
+#[tactic(auto, unfolding(crate::specs::OpCodes::instructions))]
 pub fn store_cell<L: Layout>(layout: &L, site: &Site, at: u8, a: u8, f: u8, v: u8) -> [Instr; 8]
     requires at { at < 16 }
     requires a { a < 16 }
@@ -135,7 +135,7 @@ pub fn store_cell<L: Layout>(layout: &L, site: &Site, at: u8, a: u8, f: u8, v: u
 }
 
 /// The character at an address.
-#[tactic(auto, unfolding(crate::specs::Codes::instructions))]
+#[tactic(auto, unfolding(crate::specs::OpCodes::instructions))]
 pub fn load_char<L: Layout>(layout: &L, site: &Site, to: u8, at: u8) -> [Instr; 4]
     requires to { to < 16 }
     requires at { at < 16 }
@@ -153,7 +153,7 @@ pub fn load_char<L: Layout>(layout: &L, site: &Site, to: u8, at: u8) -> [Instr; 
 }
 
 /// A character goes to an address, whose cell becomes characters.
-#[tactic(auto, unfolding(crate::specs::Codes::instructions))]
+#[tactic(auto, unfolding(crate::specs::OpCodes::instructions))]
 pub fn store_char<L: Layout>(layout: &L, site: &Site, at: u8, from: u8) -> [Instr; 4]
     requires at { at < 16 }
     requires from { from < 16 }

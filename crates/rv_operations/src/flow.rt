@@ -1,6 +1,6 @@
 // The instructions of the beginning of statements, of ends, and of jumps by entries.
 ghost use Rattle.std.specs.Prelude.{◌≡◌, ◌-◌, ◌<◌, ◌^◌};
-ghost use Rattle.rv_operations.specs.Codes.{begin_code, end_code, entry_code};
+ghost use Rattle.rv_operations.specs.OpCodes.{begin_code, end_code, entry_code};
 
 use crate::registers::moved_to;
 use rv_isa::{BOp, IOp, Instr, UOp};

@@ -1,8 +1,8 @@
 // The instructions of operations.
 ghost use Rattle.std.specs.Prelude.{◌≡◌, ◌-◌, ◌++◌, ◌<◌, ◌≤◌, ◌^◌, OnOk, IsTrue};
 ghost use Rattle.sil_micro.specs.Forms.{are_values};
-ghost use Rattle.rv_operations.specs.Codes.{instructions, load_word_code, store_word_code, unit_call_code};
-ghost use Rattle.rv_operations.specs.Sites.{CanStand, HasRules, IsText, is_access};
+ghost use Rattle.rv_operations.specs.OpCodes.{instructions, load_word_code, store_word_code, unit_call_code};
+ghost use Rattle.rv_operations.specs.OpSites.{CanStand, HasRules, IsText, is_access};
 
 use crate::cells::{load_char, load_field, store_a, store_cell, store_char, store_f, store_v};
 use crate::flow::{begin, end, jump_by_entry};
@@ -20,7 +20,7 @@ use sil_micro::{Area, Op, Text, Values};
 use std::alloc::AllocError;
 
 /// Appends the instructions of a field's store.
-#[tactic(auto, unfolding(crate::specs::Codes::instructions))]
+#[tactic(auto, unfolding(crate::specs::OpCodes::instructions))]
 fn append_store_field<L: Layout>(
     code: &mut Vec<Instr>,
     layout: &L,
@@ -112,7 +112,7 @@ fn append_unit_call(
 }
 
 /// Appends the instructions of an operation on a cell, a word or a unit.
-#[tactic(auto, unfolding(crate::specs::Codes::instructions))]
+#[tactic(auto, unfolding(crate::specs::OpCodes::instructions))]
 fn append_access<L: Layout>(
     code: &mut Vec<Instr>,
     layout: &L,
@@ -154,7 +154,7 @@ fn append_access<L: Layout>(
 }
 
 /// Appends the instructions of an operation where it stands.
-#[tactic(auto, unfolding(crate::specs::Codes::instructions, rv_straight::specs::Jumps::leap, rv_straight::specs::Jumps::jump_if, rv_straight::specs::Constants::constant))]
+#[tactic(auto, unfolding(crate::specs::OpCodes::instructions, rv_straight::specs::Jumps::leap, rv_straight::specs::Jumps::jump_if, rv_straight::specs::Constants::constant))]
 pub fn append_op<L: Layout>(
     code: &mut Vec<Instr>,
     layout: &L,

@@ -1,6 +1,6 @@
 // The places of micro registers, and operations on registers alone.
 ghost use Rattle.std.specs.Prelude.{◌≡◌, ◌<◌};
-ghost use Rattle.rv_operations.specs.Codes.{arith_op, branch_op, copy_code, moved_to};
+ghost use Rattle.rv_operations.specs.OpCodes.{arith_op, branch_op, copy_code, moved_to};
 ghost use Rattle.rv_operations.specs.Homes.{home};
 
 use rv_isa::{BOp, IOp, Instr, ROp};

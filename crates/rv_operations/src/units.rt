@@ -1,8 +1,8 @@
 // The instructions of calls on units.
 ghost use Rattle.std.specs.Prelude.{◌≡◌, ◌-◌, ◌++◌, ◌<◌, ◌≤◌, ◌^◌, OnOk, IsTrue, pos};
 ghost use Rattle.sil_micro.specs.Forms.{are_values};
-ghost use Rattle.rv_operations.specs.Codes.{text_code, values_code, call_unit_code};
-ghost use Rattle.rv_operations.specs.Sites.{IsText};
+ghost use Rattle.rv_operations.specs.OpCodes.{text_code, values_code, call_unit_code};
+ghost use Rattle.rv_operations.specs.OpSites.{IsText};
 
 use crate::places::Links;
 use crate::registers::{home, moved_to};

@@ -1,6 +1,6 @@
 // The instructions that read and write words of areas.
 ghost use Rattle.std.specs.Prelude.{◌≡◌, ◌<◌, ◌^◌};
-ghost use Rattle.rv_operations.specs.Codes.{call_with_code, load_word_code, store_word_code};
+ghost use Rattle.rv_operations.specs.OpCodes.{call_with_code, load_word_code, store_word_code};
 
 use crate::calling::{call_from, call_to};
 use crate::places::Routines;

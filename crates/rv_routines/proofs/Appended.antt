@@ -4,7 +4,7 @@ use Rattle.std.specs.Prelude.{pos, Result, Ok, Err, OnOk, is_ok, if◌then◌els
 use Rattle.rv_isa.specs.declared.instr.SOp.TheVariants.{Sd}
 use Rattle.rv_isa.specs.declared.instr.Instr.{Instr}
 use Rattle.rv_isa.specs.declared.instr.Instr.TheVariants.{S}
-use Rattle.rv_routines.specs.Codes.{zeros_code}
+use Rattle.rv_routines.specs.RoutineCodes.{zeros_code}
 
 -- two parts, one behind another, and three
 pub in_two : {b c : List Instr} (a x y : List Instr) → b ≡ a ++ x → c ≡ b ++ y → c ≡ a ++ (x ++ y)

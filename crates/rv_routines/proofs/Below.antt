@@ -2,10 +2,10 @@
 use Rattle.std.proofs.Common.{◌≡◌, ℕ, ◌-◌, ◌*◌, ◌%◌, ◌^◌, ◌<◌, ◌≤◌, [], ◌∷◌, length, Some, None, Bool, true, false, cond, refl, ap, arith}
 use Rattle.std.specs.Prelude.{nat_lt, not}
 use Rattle.image_file.specs.Image.{Image}
-use Rattle.rv_emulate.specs.States.{State, register}
-use Rattle.rv_emulate.specs.Values.{extended}
+use Rattle.rv_emulate.specs.EmulatorStates.{State, register}
+use Rattle.rv_emulate.specs.InstrValues.{extended}
 use Rattle.rv_straight.specs.Registers.{IsFile, Writes}
-use Rattle.rv_straight.specs.Effects.{Value}
+use Rattle.rv_straight.specs.InstrEffects.{Value}
 use Rattle.rv_straight.specs.Straight.{◌▸◌}
 use Rattle.rv_straight.specs.Code.{IsNext}
 use Rattle.rv_straight.specs.Constants.{upper_of}
@@ -14,7 +14,7 @@ use Rattle.rv_straight.proofs.Reaching.{start, straight, passes, branches, undef
 use Rattle.rv_straight.proofs.Numbers.{constant_is}
 use Rattle.rv_straight.proofs.Leaps.{code_at}
 use Rattle.rv_routines.specs.Routines.{Tested, kept}
-use Rattle.rv_routines.specs.Codes.{below_code}
+use Rattle.rv_routines.specs.RoutineCodes.{below_code}
 use Rattle.rv_routines.specs.Laws.{LawOfBelow}
 use Rattle.rv_routines.proofs.Returning.{returns}
 

@@ -9,9 +9,9 @@ use Rattle.layout_params.specs.Sizes.{Sizes}
 use Rattle.sil_model.specs.Memory as abstract
 use Rattle.image_file.specs.Image.{Image}
 use Rattle.rv_emulate.specs.declared.end.CpuEnd.TheVariants.{Undefined}
-use Rattle.rv_emulate.specs.Memory.{Memory}
-use Rattle.rv_emulate.specs.States.{State, On, Ended, register}
-use Rattle.rv_straight.specs.Ways.{Comes}
+use Rattle.rv_emulate.specs.EmulatorMemory.{Memory}
+use Rattle.rv_emulate.specs.EmulatorStates.{State, On, Ended, register}
+use Rattle.rv_straight.specs.InstalledWays.{Comes}
 use Rattle.rv_straight.specs.Registers.{IsFile, Keeps, Writes, read, are, Knows}
 use Rattle.rv_straight.specs.Straight.{at}
 use Rattle.rv_straight.specs.Code.{IsNext}

@@ -15,8 +15,8 @@ use Rattle.layout_params.proofs.PackingLemmas.{a-written, f-written, v-written, 
 use Rattle.sil_model.specs.Memory as abstract
 use Rattle.sil_model.specs.Memory.{FitsDescr}
 use Rattle.sil_model.specs.Access.{with_cell}
-use Rattle.rv_emulate.specs.Memory.{Memory}
-use Rattle.rv_routines.specs.Fields.{bits_of}
+use Rattle.rv_emulate.specs.EmulatorMemory.{Memory}
+use Rattle.rv_routines.specs.FieldCodes.{bits_of}
 use Rattle.rv_routines.specs.Holds.{HoldsMemory, DifferInCell}
 use Rattle.rv_routines.specs.Tests.{opened}
 use Rattle.rv_routines.proofs.Pieces.{kind_written, kind_here}

@@ -10,7 +10,7 @@ use Rattle.layout_params.specs.Sizes.{Sizes}
 use Rattle.sil_base.specs.declared.places.TheConstants.{FIRST_CELL}
 use Rattle.sil_model.specs.Memory.{Memory}
 use Rattle.sil_model.specs.Access.{descr_at, descr_of, cell_at, cell_number, byte_place}
-use Rattle.rv_emulate.specs.Memory as emulator
+use Rattle.rv_emulate.specs.EmulatorMemory as emulator
 use Rattle.rv_routines.specs.Holds.{HoldsMemory}
 
 -- the distance from the first cell, wrapped

@@ -20,7 +20,7 @@ use Rattle.sil_model.specs.Access.{with_cell, chars_or_zeros}
 use Rattle.sil_model.specs.Start.{zero_cell}
 use Rattle.sil_model.specs.declared.limits.Limits.{Limits}
 use Rattle.sil_model.proofs.Characters.{bytes_of, zeros_fit, cell_chars_fit}
-use Rattle.rv_emulate.specs.Memory.{Memory, loaded}
+use Rattle.rv_emulate.specs.EmulatorMemory.{Memory, loaded}
 use Rattle.rv_routines.specs.Holds.{HoldsMemory, DifferInCell}
 use Rattle.rv_routines.specs.Tests.{made, cleared}
 use Rattle.rv_routines.proofs.Regions.{load_cells, piece_one}

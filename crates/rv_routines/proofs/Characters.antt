@@ -11,11 +11,11 @@ use Rattle.sil_model.specs.Memory as abstract
 use Rattle.sil_model.specs.CellWords.{kind_of}
 use Rattle.image_file.specs.Image.{Image}
 use Rattle.rv_emulate.specs.declared.end.CpuEnd.TheVariants.{Undefined}
-use Rattle.rv_emulate.specs.Memory.{loaded}
-use Rattle.rv_emulate.specs.States.{State, Outcome, Ended, register}
-use Rattle.rv_emulate.specs.Values.{sum64, extended}
+use Rattle.rv_emulate.specs.EmulatorMemory.{loaded}
+use Rattle.rv_emulate.specs.EmulatorStates.{State, Outcome, Ended, register}
+use Rattle.rv_emulate.specs.InstrValues.{sum64, extended}
 use Rattle.rv_straight.specs.Registers.{IsFile, Keeps, Writes, written}
-use Rattle.rv_straight.specs.Effects.{Value}
+use Rattle.rv_straight.specs.InstrEffects.{Value}
 use Rattle.rv_straight.specs.Straight.{at, ◌▸◌}
 use Rattle.rv_straight.specs.Code.{IsNext}
 use Rattle.rv_straight.specs.Constants.{upper_of}
@@ -27,7 +27,7 @@ use Rattle.rv_straight.proofs.Numbers.{constant_is}
 use Rattle.rv_straight.proofs.Leaps.{code_from, code_at}
 use Rattle.rv_routines.specs.Holds.{HoldsMemory}
 use Rattle.rv_routines.specs.Routines.{Tested, kept, is_scratch}
-use Rattle.rv_routines.specs.Codes.{char_code, word_code}
+use Rattle.rv_routines.specs.RoutineCodes.{char_code, word_code}
 use Rattle.rv_routines.specs.Tests.{cell_around, with_chars, char_test}
 use Rattle.rv_routines.specs.Laws.{LawOfChars, LawOfWords}
 use Rattle.rv_routines.proofs.Regions.{load_kind}

@@ -13,13 +13,13 @@ use Rattle.sil_model.specs.CellWords.{kind_of}
 use Rattle.sil_model.specs.Access.{descr_of}
 use Rattle.image_file.specs.Image.{Image}
 use Rattle.rv_emulate.specs.declared.end.CpuEnd.TheVariants.{Undefined}
-use Rattle.rv_emulate.specs.Memory.{loaded}
-use Rattle.rv_emulate.specs.States.{State, Outcome, Ended, register}
-use Rattle.rv_emulate.specs.Values.{sum64, extended, r_value}
+use Rattle.rv_emulate.specs.EmulatorMemory.{loaded}
+use Rattle.rv_emulate.specs.EmulatorStates.{State, Outcome, Ended, register}
+use Rattle.rv_emulate.specs.InstrValues.{sum64, extended, r_value}
 use Rattle.layout_params.proofs.LegalLayouts.{IsLegal, legal}
-use Rattle.rv_straight.specs.Ways.{Comes}
+use Rattle.rv_straight.specs.InstalledWays.{Comes}
 use Rattle.rv_straight.specs.Registers.{IsFile, Writes}
-use Rattle.rv_straight.specs.Effects.{Value}
+use Rattle.rv_straight.specs.InstrEffects.{Value}
 use Rattle.rv_straight.specs.Straight.{◌▸◌}
 use Rattle.rv_straight.specs.Code.{IsNext}
 use Rattle.rv_straight.specs.Constants.{upper_of}
@@ -30,7 +30,7 @@ use Rattle.rv_straight.proofs.Numbers.{constant_is}
 use Rattle.rv_straight.proofs.Leaps.{code_at}
 use Rattle.rv_routines.specs.Holds.{HoldsMemory}
 use Rattle.rv_routines.specs.Routines.{Tested, kept}
-use Rattle.rv_routines.specs.Codes.{check_code}
+use Rattle.rv_routines.specs.RoutineCodes.{check_code}
 use Rattle.rv_routines.specs.Tests.{check_test}
 use Rattle.rv_routines.specs.Laws.{LawOfCheck}
 use Rattle.rv_routines.proofs.Returning.{returns}

@@ -4,7 +4,7 @@ use Rattle.std.proofs.lemmas.List.{length-replicate}
 use Rattle.std.specs.Prelude.{slice_get}
 use Rattle.sil_base.specs.Bytes.{low_bytes, piece, with_piece, AreBytes}
 use Rattle.sil_base.proofs.Numbers.{length-with_piece, piece-with_piece}
-use Rattle.rv_emulate.specs.Memory.{Memory}
+use Rattle.rv_emulate.specs.EmulatorMemory.{Memory}
 use Rattle.rv_routines.specs.Holds.{DifferInCell}
 use Rattle.rv_routines.specs.Tests.{zeroed, cleared}
 use Rattle.rv_routines.proofs.Pieces.{kind_written, kind_here}

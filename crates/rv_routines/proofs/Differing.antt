@@ -15,7 +15,7 @@ use Rattle.sil_model.specs.Memory as abstract
 use Rattle.sil_model.specs.Memory.{FitsCell}
 use Rattle.sil_model.specs.CellWords.{kind_of}
 use Rattle.sil_model.specs.Access.{with_cell}
-use Rattle.rv_emulate.specs.Memory.{Memory}
+use Rattle.rv_emulate.specs.EmulatorMemory.{Memory}
 use Rattle.rv_routines.specs.Holds.{HoldsMemory, DifferInCell}
 use Rattle.rv_routines.proofs.Pieces.{piece_written, set_here, set_there, kind_written, kind_there}
 

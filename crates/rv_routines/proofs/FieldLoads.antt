@@ -16,8 +16,8 @@ use Rattle.layout_params.proofs.LegalLayouts.{IsLegal}
 use Rattle.sil_model.specs.Memory as abstract
 use Rattle.sil_model.specs.Memory.{FitsCell, FitsDescr}
 use Rattle.sil_model.specs.Access.{field_of}
-use Rattle.rv_emulate.specs.Memory.{Memory, loaded}
-use Rattle.rv_emulate.specs.Values.{sum64}
+use Rattle.rv_emulate.specs.EmulatorMemory.{Memory, loaded}
+use Rattle.rv_emulate.specs.InstrValues.{sum64}
 use Rattle.rv_routines.specs.Holds.{HoldsMemory}
 use Rattle.rv_routines.proofs.Cells.{IsPlace}
 use Rattle.rv_routines.proofs.Regions.{load_cells}

@@ -18,9 +18,9 @@ use Rattle.sil_model.specs.Integers.{within}
 use Rattle.sil_model.specs.Memory as abstract
 use Rattle.sil_model.specs.Memory.{FitsDescr}
 use Rattle.sil_model.specs.Access.{with_cell}
-use Rattle.rv_emulate.specs.Memory.{Memory, stored}
-use Rattle.rv_emulate.specs.Values.{sum64, s_width}
-use Rattle.rv_routines.specs.Fields.{bits_of, store_op}
+use Rattle.rv_emulate.specs.EmulatorMemory.{Memory, stored}
+use Rattle.rv_emulate.specs.InstrValues.{sum64, s_width}
+use Rattle.rv_routines.specs.FieldCodes.{bits_of, store_op}
 use Rattle.rv_routines.specs.Holds.{HoldsMemory}
 use Rattle.rv_routines.proofs.Cells.{IsPlace, few_bytes}
 use Rattle.rv_routines.proofs.Regions.{store_cells}

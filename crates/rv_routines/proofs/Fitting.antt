@@ -7,10 +7,10 @@ use Rattle.layout_params.specs.Sizes.{Sizes}
 use Rattle.sil_model.specs.Memory as abstract
 use Rattle.sil_model.specs.Access.{descr_at}
 use Rattle.image_file.specs.Image.{Image}
-use Rattle.rv_emulate.specs.States.{State, register}
+use Rattle.rv_emulate.specs.EmulatorStates.{State, register}
 use Rattle.layout_params.proofs.LegalLayouts.{IsLegal, legal}
 use Rattle.rv_straight.specs.Registers.{IsFile, Keeps, Writes, written}
-use Rattle.rv_straight.specs.Effects.{Value}
+use Rattle.rv_straight.specs.InstrEffects.{Value}
 use Rattle.rv_straight.specs.Straight.{at, ◌▸◌}
 use Rattle.rv_straight.specs.Code.{IsNext}
 use Rattle.rv_straight.specs.Reaching.{Reaches}
@@ -20,7 +20,7 @@ use Rattle.rv_straight.proofs.Reaching.{start, straight, passes, branches, undef
 use Rattle.rv_straight.proofs.Leaps.{code_from, code_at}
 use Rattle.rv_routines.specs.Holds.{HoldsMemory}
 use Rattle.rv_routines.specs.Routines.{Tested, kept, is_scratch}
-use Rattle.rv_routines.specs.Codes.{fit_code}
+use Rattle.rv_routines.specs.RoutineCodes.{fit_code}
 use Rattle.rv_routines.specs.Tests.{check_test}
 use Rattle.rv_routines.specs.Laws.{LawOfFit}
 use Rattle.rv_routines.proofs.Returning.{tested_after}

@@ -9,12 +9,12 @@ use Rattle.layout_params.specs.Sizes.{Sizes}
 use Rattle.layout_params.proofs.LegalLayouts.{IsLegal, legal}
 use Rattle.sil_model.specs.Memory as abstract
 use Rattle.image_file.specs.Image.{Image}
-use Rattle.rv_emulate.specs.Memory.{Memory, stored}
-use Rattle.rv_emulate.specs.States.{State, On, register}
-use Rattle.rv_emulate.specs.Values.{sum64, extended}
-use Rattle.rv_straight.specs.Ways.{Comes}
+use Rattle.rv_emulate.specs.EmulatorMemory.{Memory, stored}
+use Rattle.rv_emulate.specs.EmulatorStates.{State, On, register}
+use Rattle.rv_emulate.specs.InstrValues.{sum64, extended}
+use Rattle.rv_straight.specs.InstalledWays.{Comes}
 use Rattle.rv_straight.specs.Registers.{IsFile, Writes}
-use Rattle.rv_straight.specs.Effects.{Value, Leaves}
+use Rattle.rv_straight.specs.InstrEffects.{Value, Leaves}
 use Rattle.rv_straight.specs.Straight.{◌▸◌}
 use Rattle.rv_straight.specs.Code.{IsNext}
 use Rattle.rv_straight.specs.Constants.{upper_of}
@@ -25,7 +25,7 @@ use Rattle.rv_straight.proofs.Numbers.{constant_is}
 use Rattle.rv_straight.proofs.Leaps.{code_at}
 use Rattle.rv_routines.specs.Holds.{HoldsMemory}
 use Rattle.rv_routines.specs.Routines.{Tested}
-use Rattle.rv_routines.specs.Codes.{kind_code}
+use Rattle.rv_routines.specs.RoutineCodes.{kind_code}
 use Rattle.rv_routines.specs.Tests.{kinded, zeroed}
 use Rattle.rv_routines.specs.Laws.{LawOfKind}
 use Rattle.rv_routines.proofs.Cells.{few_bytes}

@@ -14,12 +14,12 @@ use Rattle.sil_model.specs.Memory as abstract
 use Rattle.sil_model.specs.CellWords.{kind_of}
 use Rattle.image_file.specs.Image.{Image}
 use Rattle.rv_emulate.specs.declared.end.CpuEnd.TheVariants.{Undefined}
-use Rattle.rv_emulate.specs.Memory.{Memory, loaded, stored}
-use Rattle.rv_emulate.specs.States.{State, Outcome, On, Ended, register}
-use Rattle.rv_emulate.specs.Values.{sum64, extended}
-use Rattle.rv_straight.specs.Ways.{Comes}
+use Rattle.rv_emulate.specs.EmulatorMemory.{Memory, loaded, stored}
+use Rattle.rv_emulate.specs.EmulatorStates.{State, Outcome, On, Ended, register}
+use Rattle.rv_emulate.specs.InstrValues.{sum64, extended}
+use Rattle.rv_straight.specs.InstalledWays.{Comes}
 use Rattle.rv_straight.specs.Registers.{IsFile, Writes}
-use Rattle.rv_straight.specs.Effects.{Value, Leaves}
+use Rattle.rv_straight.specs.InstrEffects.{Value, Leaves}
 use Rattle.rv_straight.specs.Straight.{◌▸◌}
 use Rattle.rv_straight.specs.Code.{IsNext}
 use Rattle.rv_straight.specs.Constants.{upper_of}
@@ -30,7 +30,7 @@ use Rattle.rv_straight.proofs.Numbers.{constant_is}
 use Rattle.rv_straight.proofs.Leaps.{code_at}
 use Rattle.rv_routines.specs.Holds.{HoldsMemory}
 use Rattle.rv_routines.specs.Routines.{Tested}
-use Rattle.rv_routines.specs.Codes.{make_code}
+use Rattle.rv_routines.specs.RoutineCodes.{make_code}
 use Rattle.rv_routines.specs.Tests.{made, make_test, zeroed}
 use Rattle.rv_routines.specs.Laws.{LawOfMake}
 use Rattle.rv_routines.proofs.Cells.{offset, place_by, few_bytes}

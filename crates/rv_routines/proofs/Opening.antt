@@ -7,12 +7,12 @@ use Rattle.sil_model.specs.Memory as abstract
 use Rattle.sil_model.specs.Access.{cell_number}
 use Rattle.image_file.specs.Image.{Image}
 use Rattle.rv_emulate.specs.declared.end.CpuEnd.TheVariants.{Undefined}
-use Rattle.rv_emulate.specs.Memory.{stored}
-use Rattle.rv_emulate.specs.Values.{sum64, extended}
-use Rattle.rv_emulate.specs.States.{State, Outcome, Ended, register}
+use Rattle.rv_emulate.specs.EmulatorMemory.{stored}
+use Rattle.rv_emulate.specs.InstrValues.{sum64, extended}
+use Rattle.rv_emulate.specs.EmulatorStates.{State, Outcome, Ended, register}
 use Rattle.layout_params.proofs.LegalLayouts.{IsLegal, legal}
 use Rattle.rv_straight.specs.Registers.{IsFile, Writes}
-use Rattle.rv_straight.specs.Effects.{Value, Leaves}
+use Rattle.rv_straight.specs.InstrEffects.{Value, Leaves}
 use Rattle.rv_straight.specs.Straight.{◌▸◌}
 use Rattle.rv_straight.specs.Code.{IsNext}
 use Rattle.rv_straight.specs.Constants.{upper_of}
@@ -23,7 +23,7 @@ use Rattle.rv_straight.proofs.Numbers.{constant_is}
 use Rattle.rv_straight.proofs.Leaps.{code_at}
 use Rattle.rv_routines.specs.Holds.{HoldsMemory}
 use Rattle.rv_routines.specs.Routines.{Tested}
-use Rattle.rv_routines.specs.Codes.{open_code}
+use Rattle.rv_routines.specs.RoutineCodes.{open_code}
 use Rattle.rv_routines.specs.Tests.{opened}
 use Rattle.rv_routines.specs.Laws.{LawOfOpen}
 use Rattle.rv_routines.proofs.Cells.{offset, number_by, cell_number_is, few_bytes}

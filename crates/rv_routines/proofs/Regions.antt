@@ -4,7 +4,7 @@ use Rattle.std.proofs.lemmas.Option.{slice_get_within}
 use Rattle.std.specs.Prelude.{slice_get, ◌==◌}
 use Rattle.sil_base.specs.Bytes.{number, piece, low_bytes, with_piece}
 use Rattle.sil_base.specs.declared.places.TheConstants.{FIRST_CELL, FIRST_CONSTANT, FIRST_KIND, FIRST_SCRATCH, FIRST_TABLE}
-use Rattle.rv_emulate.specs.Memory.{Memory, loaded, load_from, stored, store_into}
+use Rattle.rv_emulate.specs.EmulatorMemory.{Memory, loaded, load_from, stored, store_into}
 
 -- ---- a region holds an address, or ends before it
 

@@ -4,11 +4,11 @@ use Rattle.std.specs.Prelude.{nat_lt, not}
 use Rattle.layout_params.specs.Sizes.{Sizes}
 use Rattle.sil_model.specs.Memory as abstract
 use Rattle.image_file.specs.Image.{Image}
-use Rattle.rv_emulate.specs.Memory.{stored}
-use Rattle.rv_emulate.specs.States.{State, register}
-use Rattle.rv_emulate.specs.Values.{sum64}
+use Rattle.rv_emulate.specs.EmulatorMemory.{stored}
+use Rattle.rv_emulate.specs.EmulatorStates.{State, register}
+use Rattle.rv_emulate.specs.InstrValues.{sum64}
 use Rattle.rv_straight.specs.Registers.{IsFile}
-use Rattle.rv_straight.specs.Effects.{Value, Leaves}
+use Rattle.rv_straight.specs.InstrEffects.{Value, Leaves}
 use Rattle.rv_straight.specs.Straight.{◌▸◌}
 use Rattle.rv_straight.specs.Code.{IsNext}
 use Rattle.rv_straight.specs.Reaching.{Reaches}
@@ -17,7 +17,7 @@ use Rattle.rv_straight.proofs.Reaching.{start, straight, passes, branches, undef
 use Rattle.rv_straight.proofs.Leaps.{code_at}
 use Rattle.rv_routines.specs.Holds.{HoldsMemory}
 use Rattle.rv_routines.specs.Routines.{Tested}
-use Rattle.rv_routines.specs.Codes.{state_code}
+use Rattle.rv_routines.specs.RoutineCodes.{state_code}
 use Rattle.rv_routines.specs.Tests.{state_written, scratch_written}
 use Rattle.rv_routines.specs.Laws.{LawOfState}
 use Rattle.rv_routines.proofs.Cells.{few_bytes}

@@ -8,17 +8,17 @@ use Rattle.rv_isa.specs.declared.instr.SOp.TheVariants.{Sd}
 use Rattle.rv_isa.specs.declared.instr.Instr.{Instr}
 use Rattle.rv_isa.specs.declared.instr.Instr.TheVariants.{S}
 use Rattle.image_file.specs.Image.{Image}
-use Rattle.rv_emulate.specs.Memory.{Memory, stored}
-use Rattle.rv_emulate.specs.States.{State}
-use Rattle.rv_emulate.specs.Values.{sum64}
+use Rattle.rv_emulate.specs.EmulatorMemory.{Memory, stored}
+use Rattle.rv_emulate.specs.EmulatorStates.{State}
+use Rattle.rv_emulate.specs.InstrValues.{sum64}
 use Rattle.rv_straight.specs.Registers.{Writes, read}
-use Rattle.rv_straight.specs.Effects.{Given, Leaves}
+use Rattle.rv_straight.specs.InstrEffects.{Given, Leaves}
 use Rattle.rv_straight.specs.Straight.{Follow, writes_after, memory_after, ◌▸◌}
 use Rattle.rv_straight.specs.Code.{IsNext}
 use Rattle.rv_straight.specs.Reaching.{Reaches}
 use Rattle.rv_straight.proofs.Registers.{read_zero}
 use Rattle.rv_straight.proofs.Reaching.{straight}
-use Rattle.rv_routines.specs.Codes.{zeros_code}
+use Rattle.rv_routines.specs.RoutineCodes.{zeros_code}
 use Rattle.rv_routines.specs.Tests.{zeroed}
 use Rattle.rv_routines.proofs.Regions.{store_cells}
 

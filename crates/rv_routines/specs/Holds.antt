@@ -8,7 +8,7 @@ use Rattle.layout_params.specs.Packing.{IsPacked}
 use Rattle.sil_model.specs.Memory as abstract
 use Rattle.sil_model.specs.Memory.{IsMemory}
 use Rattle.sil_model.specs.CellWords.{kind_of}
-use Rattle.rv_emulate.specs.Memory.{Memory}
+use Rattle.rv_emulate.specs.EmulatorMemory.{Memory}
 
 -- all regions hold bytes
 pub record HoldsBytes (m : Memory) : Type 0 where

@@ -4,7 +4,7 @@ use Rattle.layout_params.specs.Sizes.{Sizes, is_legal}
 use Rattle.image_file.specs.Image.{Image}
 use Rattle.rv_straight.specs.Code.{IsApart}
 use Rattle.rv_routines.specs.Routines.{IsRoutine, kept}
-use Rattle.rv_routines.specs.Codes.{check_code, fit_code, open_code, char_code, word_code, below_code, make_code, kind_code, state_code}
+use Rattle.rv_routines.specs.RoutineCodes.{check_code, fit_code, open_code, char_code, word_code, below_code, make_code, kind_code, state_code}
 use Rattle.rv_routines.specs.Tests.{check_test, fit_test, open_test, opened, char_test, word_test, below_test, make_test, made, kind_test, kinded, state_test, state_written}
 
 abbrev pub LawOfCheck : Type 0

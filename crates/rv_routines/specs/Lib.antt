@@ -1,6 +1,6 @@
 pub mod Holds
 pub mod Routines
-pub mod Fields
-pub mod Codes
+pub mod FieldCodes
+pub mod RoutineCodes
 pub mod Tests
 pub mod Laws

@@ -7,8 +7,8 @@ use Rattle.layout_params.specs.declared.cell.Cell.TheVariants.{Descr, Chars}
 use Rattle.layout_params.specs.declared.cell.Descr.{Descr as Descriptor}
 use Rattle.sil_model.specs.Memory as abstract
 use Rattle.sil_model.specs.Access.{◌>>=◌, byte_place, cell_number, descr_at}
-use Rattle.rv_emulate.specs.Memory.{Memory}
-use Rattle.rv_emulate.specs.States.{register}
+use Rattle.rv_emulate.specs.EmulatorMemory.{Memory}
+use Rattle.rv_emulate.specs.EmulatorStates.{register}
 
 -- the descriptor at the address in x10
 abbrev pub check_test : abstract.Memory → List ℕ → Option Descriptor

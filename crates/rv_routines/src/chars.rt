@@ -1,6 +1,6 @@
 // The routines that test a cell for characters, or make it characters.
 ghost use Rattle.std.specs.Prelude.{◌≡◌, ◌++◌, ◌≤◌, ◌^◌, OnOk};
-ghost use Rattle.rv_routines.specs.Codes.{char_routine, make_front, make_routine, word_routine};
+ghost use Rattle.rv_routines.specs.RoutineCodes.{char_routine, make_front, make_routine, word_routine};
 
 use crate::check::{lower_count, upper_count};
 use crate::fields::descr_of;
@@ -11,7 +11,7 @@ use rv_straight::{branch, immediate, operate, store, upper_part};
 use std::alloc::AllocError;
 
 /// Whether the cell in which the address in x10 lies has characters.
-#[tactic(auto, unfolding(crate::specs::Codes::char_routine))]
+#[tactic(auto, unfolding(crate::specs::RoutineCodes::char_routine))]
 pub fn char_routine<L: Layout>(layout: &L, count: u32) -> [Instr; 15]
     requires { count ≤ 2 ^ 20 }
     ensures { result ≡ char_routine (L.sizes layout.now).descr count }
@@ -36,7 +36,7 @@ pub fn char_routine<L: Layout>(layout: &L, count: u32) -> [Instr; 15]
 }
 
 /// Appends the same, behind the test that the address is a multiple of 8.
-#[tactic(auto, unfolding(crate::specs::Codes::char_routine, crate::specs::Codes::word_routine))]
+#[tactic(auto, unfolding(crate::specs::RoutineCodes::char_routine, crate::specs::RoutineCodes::word_routine))]
 pub fn append_word<L: Layout>(
     code: &mut Vec<Instr>,
     layout: &L,
@@ -78,7 +78,7 @@ fn make_tests<L: Layout>(layout: &L, count: u32) -> [Instr; 19]
 }
 
 /// Appends the routine that makes the cell in which the address in x10 lies characters.
-#[tactic(auto, using(crate::proofs::Appended::in_three), unfolding(crate::specs::Codes::make_routine))]
+#[tactic(auto, using(crate::proofs::Appended::in_three), unfolding(crate::specs::RoutineCodes::make_routine))]
 pub fn append_make<L: Layout>(
     code: &mut Vec<Instr>,
     layout: &L,

@@ -1,7 +1,7 @@
 // The routines that test a cell for a descriptor.
 ghost use Rattle.std.specs.Prelude.{◌≡◌, ◌++◌, ◌<◌, ◌≤◌, ◌^◌, OnOk};
 ghost use Rattle.rv_straight.specs.Constants.{lower_of, upper_of};
-ghost use Rattle.rv_routines.specs.Codes.{check_routine, fit_routine};
+ghost use Rattle.rv_routines.specs.RoutineCodes.{check_routine, fit_routine};
 
 use crate::fields::descr_of;
 use layout_params::Layout;
@@ -24,7 +24,7 @@ pub fn lower_count(count: u32) -> i16
 }
 
 /// Whether the cell at the address in x10 is one of so many cells, and a descriptor.
-#[tactic(auto, unfolding(crate::specs::Codes::check_routine))]
+#[tactic(auto, unfolding(crate::specs::RoutineCodes::check_routine))]
 pub fn check_routine<L: Layout>(layout: &L, count: u32) -> [Instr; 17]
     requires { count ≤ 2 ^ 20 }
     ensures { result ≡ check_routine (L.sizes layout.now).descr count }
@@ -51,7 +51,7 @@ pub fn check_routine<L: Layout>(layout: &L, count: u32) -> [Instr; 17]
 }
 
 /// Appends the same, behind the test that the number in x12 has so many bits.
-#[tactic(auto, unfolding(crate::specs::Codes::check_routine, crate::specs::Codes::fit_routine))]
+#[tactic(auto, unfolding(crate::specs::RoutineCodes::check_routine, crate::specs::RoutineCodes::fit_routine))]
 pub fn append_fit<L: Layout>(
     code: &mut Vec<Instr>,
     layout: &L,

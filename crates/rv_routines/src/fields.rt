@@ -1,7 +1,7 @@
 // Where the fields of descriptors stand, as instructions have it.
 ghost use Rattle.std.specs.Prelude.{◌≡◌, ◌<◌, ◌≤◌, pos};
 ghost use Rattle.layout_params.specs.Packing.{place_of, width_of};
-ghost use Rattle.rv_routines.specs.Fields.{bits_of, load_op, store_op};
+ghost use Rattle.rv_routines.specs.FieldCodes.{bits_of, load_op, store_op};
 
 use layout_params::{Field, Layout};
 use rv_isa::{IOp, SOp};

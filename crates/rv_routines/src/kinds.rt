@@ -1,6 +1,6 @@
 // The routine that sets the kind of a cell.
 ghost use Rattle.std.specs.Prelude.{◌≡◌, ◌++◌, ◌≤◌, ◌^◌, OnOk};
-ghost use Rattle.rv_routines.specs.Codes.{kind_front, kind_routine};
+ghost use Rattle.rv_routines.specs.RoutineCodes.{kind_front, kind_routine};
 
 use crate::check::{lower_count, upper_count};
 use crate::fields::descr_of;
@@ -35,7 +35,7 @@ fn kind_tests<L: Layout>(layout: &L, count: u32) -> [Instr; 15]
 }
 
 /// Appends the routine that makes the cell of the number in x10 zeros of the kind in x12.
-#[tactic(auto, using(crate::proofs::Appended::in_three), unfolding(crate::specs::Codes::kind_routine))]
+#[tactic(auto, using(crate::proofs::Appended::in_three), unfolding(crate::specs::RoutineCodes::kind_routine))]
 pub fn append_kind<L: Layout>(
     code: &mut Vec<Instr>,
     layout: &L,

@@ -1,12 +1,12 @@
 // The routines that test a number, or set a word of the state.
 ghost use Rattle.std.specs.Prelude.{◌≡◌, ◌-◌, ◌<◌, ◌^◌};
-ghost use Rattle.rv_routines.specs.Codes.{below_routine, state_routine};
+ghost use Rattle.rv_routines.specs.RoutineCodes.{below_routine, state_routine};
 
 use rv_isa::{BOp, IOp, Instr, ROp, SOp, UOp};
 use rv_straight::{branch, immediate, lower, operate, store, upper, upper_part};
 
 /// Whether the number in x10 is below another.
-#[tactic(auto, unfolding(crate::specs::Codes::below_routine))]
+#[tactic(auto, unfolding(crate::specs::RoutineCodes::below_routine))]
 pub fn below_routine(n: u32) -> [Instr; 7]
     requires { n < 2 ^ 31 - 2 ^ 11 }
     ensures { result ≡ below_routine n }
@@ -23,7 +23,7 @@ pub fn below_routine(n: u32) -> [Instr; 7]
 }
 
 /// Word 0 or 1 of the state is set to the number in x12, or the number of steps stays as it is.
-#[tactic(auto, unfolding(crate::specs::Codes::state_routine))]
+#[tactic(auto, unfolding(crate::specs::RoutineCodes::state_routine))]
 pub fn state_routine() -> [Instr; 14]
     ensures { result ≡ state_routine }
 {

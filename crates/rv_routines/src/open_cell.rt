@@ -1,6 +1,6 @@
 // The routine that opens a cell to be written whole.
 ghost use Rattle.std.specs.Prelude.{◌≡◌, ◌<◌, ◌≤◌, ◌^◌};
-ghost use Rattle.rv_routines.specs.Codes.{open_routine};
+ghost use Rattle.rv_routines.specs.RoutineCodes.{open_routine};
 
 use crate::check::{lower_count, upper_count};
 use crate::fields::descr_of;
@@ -10,7 +10,7 @@ use rv_straight::{branch, immediate, operate, store, upper_part};
 
 /// The cell at the address in x10 becomes a descriptor, where the numbers in x12 and x13 have so
 /// many bits.
-#[tactic(auto, unfolding(crate::specs::Codes::open_routine))]
+#[tactic(auto, unfolding(crate::specs::RoutineCodes::open_routine))]
 pub fn open_routine<L: Layout>(layout: &L, f_bits: u8, v_bits: u8, count: u32) -> [Instr; 20]
     requires f_bits { f_bits < 64 }
     requires v_bits { v_bits < 64 }

@@ -1,6 +1,6 @@
 // Stores of zeros.
 ghost use Rattle.std.specs.Prelude.{◌≡◌, ◌++◌, ◌*◌, ◌<◌, ◌≤◌, OnOk, pos};
-ghost use Rattle.rv_routines.specs.Codes.{zeros_code};
+ghost use Rattle.rv_routines.specs.RoutineCodes.{zeros_code};
 
 use rv_isa::{Instr, SOp};
 use rv_straight::store;

@@ -1,6 +1,6 @@
 -- The instructions of constants, jumps and calls have words.
 use Rattle.std.proofs.Common.{ℕ, ◌+◌, ◌%◌, ◌^◌, ◌<◌, Bool, true, false, cond, arith, rules}
-use Rattle.rv_isa.specs.Words.{IsFrom}
+use Rattle.rv_isa.specs.InstrWords.{IsFrom}
 use Rattle.rv_straight.specs.Code.{AreInstrs}
 use Rattle.rv_straight.specs.Constants.{upper_of, lower_of, is_short, is_word, constant_12, constant_32, constant_64, constant_code}
 use Rattle.rv_straight.specs.Jumps.{distance, far_upper, leap_code}

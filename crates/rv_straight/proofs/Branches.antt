@@ -5,16 +5,16 @@ use Rattle.rv_isa.specs.declared.instr.IOp.TheVariants.{Addi, Jalr}
 use Rattle.rv_isa.specs.declared.instr.BOp.{BOp}
 use Rattle.rv_isa.specs.declared.instr.Instr.{Instr}
 use Rattle.rv_isa.specs.declared.instr.Instr.TheVariants.{I, B, Ecall}
-use Rattle.rv_isa.specs.Words.{twos}
+use Rattle.rv_isa.specs.InstrWords.{twos}
 use Rattle.image_file.specs.Image.{Image}
-use Rattle.rv_emulate.specs.Memory.{Memory}
-use Rattle.rv_emulate.specs.States.{State, On, Ended, register}
-use Rattle.rv_emulate.specs.Steps.{act, answer, ended, jump}
-use Rattle.rv_emulate.specs.Calls.{call, end_by, can_read, can_write, is_unit_call}
-use Rattle.rv_emulate.specs.Values.{sum64, taken}
-use Rattle.rv_straight.specs.Ways.{Comes}
+use Rattle.rv_emulate.specs.EmulatorMemory.{Memory}
+use Rattle.rv_emulate.specs.EmulatorStates.{State, On, Ended, register}
+use Rattle.rv_emulate.specs.EmulatorSteps.{act, answer, ended, jump}
+use Rattle.rv_emulate.specs.Ecalls.{call, end_by, can_read, can_write, is_unit_call}
+use Rattle.rv_emulate.specs.InstrValues.{sum64, taken}
+use Rattle.rv_straight.specs.InstalledWays.{Comes}
 use Rattle.rv_straight.specs.Registers.{Writes, written, read, Knows}
-use Rattle.rv_straight.specs.Effects.{Given, Value}
+use Rattle.rv_straight.specs.InstrEffects.{Given, Value}
 use Rattle.rv_straight.specs.Straight.{at, Follow, ◌▸◌}
 use Rattle.rv_straight.specs.Code.{IsNext}
 use Rattle.rv_straight.proofs.Ways.{step_at, silent_at, one_call, comes_now, then_comes}

@@ -10,14 +10,14 @@ use Rattle.rv_isa.specs.declared.instr.IOp.TheVariants.{Addi, Addiw, Slti, Sltiu
 use Rattle.rv_isa.specs.declared.instr.UOp.TheVariants.{Lui, Auipc}
 use Rattle.rv_isa.specs.declared.instr.Instr.{Instr}
 use Rattle.rv_isa.specs.declared.instr.Instr.TheVariants.{R, I, S, B, U, J, Ecall}
-use Rattle.rv_isa.specs.Words.{IsInstr, twos}
+use Rattle.rv_isa.specs.InstrWords.{IsInstr, twos}
 use Rattle.image_file.specs.Image.{Image}
-use Rattle.rv_emulate.specs.Memory.{Memory, stored}
-use Rattle.rv_emulate.specs.States.{State, register}
-use Rattle.rv_emulate.specs.Steps.{act, i_step, load_step, store_step, next_with}
-use Rattle.rv_emulate.specs.Values.{s_width, r_value, sum64, extended}
+use Rattle.rv_emulate.specs.EmulatorMemory.{Memory, stored}
+use Rattle.rv_emulate.specs.EmulatorStates.{State, register}
+use Rattle.rv_emulate.specs.EmulatorSteps.{act, i_step, load_step, store_step, next_with}
+use Rattle.rv_emulate.specs.InstrValues.{s_width, r_value, sum64, extended}
 use Rattle.rv_straight.specs.Registers.{Writes, Knows}
-use Rattle.rv_straight.specs.Effects.{Effect, Puts, Loads, Stores, Other, i_effect, r_effect, effect, Given, Value, Leaves, Gives, target}
+use Rattle.rv_straight.specs.InstrEffects.{Effect, Puts, Loads, Stores, Other, i_effect, r_effect, effect, Given, Value, Leaves, Gives, target}
 use Rattle.rv_straight.specs.Straight.{writes_with}
 use Rattle.rv_straight.specs.Laws.{after}
 use Rattle.rv_straight.proofs.Registers.{knows_write}

@@ -4,9 +4,9 @@ use Rattle.std.specs.Prelude.{not, nat_lt, ◌==◌}
 use Rattle.rv_isa.specs.declared.instr.BOp.{BOp}
 use Rattle.rv_isa.specs.declared.instr.BOp.TheVariants.{Beq, Bne, Blt, Bge, Bltu, Bgeu}
 use Rattle.image_file.specs.Image.{Image}
-use Rattle.rv_emulate.specs.States.{State, On, register}
-use Rattle.rv_emulate.specs.Values.{taken, is_below}
-use Rattle.rv_straight.specs.Ways.{Comes}
+use Rattle.rv_emulate.specs.EmulatorStates.{State, On, register}
+use Rattle.rv_emulate.specs.InstrValues.{taken, is_below}
+use Rattle.rv_straight.specs.InstalledWays.{Comes}
 use Rattle.rv_straight.specs.Registers.{IsFile}
 use Rattle.rv_straight.specs.Straight.{at}
 use Rattle.rv_straight.specs.Code.{IsNext}

@@ -5,14 +5,14 @@ use Rattle.rv_isa.specs.declared.instr.IOp.TheVariants.{Jalr}
 use Rattle.rv_isa.specs.declared.instr.UOp.TheVariants.{Auipc}
 use Rattle.rv_isa.specs.declared.instr.Instr.{Instr}
 use Rattle.rv_isa.specs.declared.instr.Instr.TheVariants.{I, U}
-use Rattle.rv_isa.specs.Words.{twos}
+use Rattle.rv_isa.specs.InstrWords.{twos}
 use Rattle.image_file.specs.Image.{Image}
-use Rattle.rv_emulate.specs.Memory.{Memory}
-use Rattle.rv_emulate.specs.States.{State, Outcome, On}
-use Rattle.rv_emulate.specs.Values.{sum64, extended}
-use Rattle.rv_straight.specs.Ways.{Comes}
+use Rattle.rv_emulate.specs.EmulatorMemory.{Memory}
+use Rattle.rv_emulate.specs.EmulatorStates.{State, Outcome, On}
+use Rattle.rv_emulate.specs.InstrValues.{sum64, extended}
+use Rattle.rv_straight.specs.InstalledWays.{Comes}
 use Rattle.rv_straight.specs.Registers.{Writes, Knows}
-use Rattle.rv_straight.specs.Effects.{Value}
+use Rattle.rv_straight.specs.InstrEffects.{Value}
 use Rattle.rv_straight.specs.Straight.{Follow, at, ◌▸◌}
 use Rattle.rv_straight.specs.Code.{StandAt, IsNext, IsApart}
 use Rattle.rv_straight.specs.Constants.{lower_of}

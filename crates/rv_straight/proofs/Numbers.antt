@@ -2,14 +2,14 @@
 use Rattle.std.proofs.Common.{◌≡◌, ℕ, ◌+◌, ◌-◌, ◌*◌, ◌%◌, ◌^◌, ◌<◌, ◌≤◌, List, [], ◌∷◌, length, take, drop, Bool, true, false, cond, refl, sym, ap, subst, ◌∙◌, arith}
 use Rattle.rv_isa.specs.declared.instr.ROp.TheVariants.{Addw}
 use Rattle.rv_isa.specs.declared.instr.Instr.{Instr}
-use Rattle.rv_isa.specs.Words.{twos}
+use Rattle.rv_isa.specs.InstrWords.{twos}
 use Rattle.image_file.specs.Image.{Image}
-use Rattle.rv_emulate.specs.Memory.{Memory}
-use Rattle.rv_emulate.specs.States.{State, On}
-use Rattle.rv_emulate.specs.Values.{sum64, extended, r_value}
-use Rattle.rv_straight.specs.Ways.{Comes}
+use Rattle.rv_emulate.specs.EmulatorMemory.{Memory}
+use Rattle.rv_emulate.specs.EmulatorStates.{State, On}
+use Rattle.rv_emulate.specs.InstrValues.{sum64, extended, r_value}
+use Rattle.rv_straight.specs.InstalledWays.{Comes}
 use Rattle.rv_straight.specs.Registers.{Writes, written, read, Knows}
-use Rattle.rv_straight.specs.Effects.{Given, Value}
+use Rattle.rv_straight.specs.InstrEffects.{Given, Value}
 use Rattle.rv_straight.specs.Straight.{Follow, at, ◌▸◌}
 use Rattle.rv_straight.specs.Code.{IsNext}
 use Rattle.rv_straight.specs.Constants.{upper_of, lower_of, is_short, is_word, constant_12, constant_32, constant_64, constant_code, constant_length}

@@ -6,16 +6,16 @@ use Rattle.rv_isa.specs.declared.instr.BOp.{BOp}
 use Rattle.rv_isa.specs.declared.instr.UOp.TheVariants.{Auipc}
 use Rattle.rv_isa.specs.declared.instr.Instr.{Instr}
 use Rattle.rv_isa.specs.declared.instr.Instr.TheVariants.{I, B, U, Ecall}
-use Rattle.rv_isa.specs.Words.{twos}
+use Rattle.rv_isa.specs.InstrWords.{twos}
 use Rattle.image_file.specs.Image.{Image}
 use Rattle.rv_emulate.specs.declared.end.CpuEnd.TheVariants.{Undefined}
-use Rattle.rv_emulate.specs.Memory.{Memory}
-use Rattle.rv_emulate.specs.Calls.{end_by}
-use Rattle.rv_emulate.specs.States.{State, Outcome, On, Ended}
-use Rattle.rv_emulate.specs.Values.{sum64, taken}
-use Rattle.rv_straight.specs.Ways.{Comes}
+use Rattle.rv_emulate.specs.EmulatorMemory.{Memory}
+use Rattle.rv_emulate.specs.Ecalls.{end_by}
+use Rattle.rv_emulate.specs.EmulatorStates.{State, Outcome, On, Ended}
+use Rattle.rv_emulate.specs.InstrValues.{sum64, taken}
+use Rattle.rv_straight.specs.InstalledWays.{Comes}
 use Rattle.rv_straight.specs.Registers.{IsFile, Writes, read, Knows}
-use Rattle.rv_straight.specs.Effects.{Given}
+use Rattle.rv_straight.specs.InstrEffects.{Given}
 use Rattle.rv_straight.specs.Straight.{Follow, writes_after, memory_after, at}
 use Rattle.rv_straight.specs.Code.{IsNext}
 use Rattle.rv_straight.specs.Constants.{lower_of}

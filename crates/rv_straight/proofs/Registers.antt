@@ -2,7 +2,7 @@
 use Rattle.std.proofs.Common.{◌≡◌, ◌≢◌, ℕ, zero, suc, ◌^◌, ◌<◌, ◌⊎◌, inl, inr, List, [], ◌∷◌, length, get_or, set, Bool, true, false, cond, ◌==◌, ◌&&◌, refl, sym, ap, ◌∙◌, arith, get_or-set_other, get_or-set_same}
 use Rattle.std.proofs.lemmas.List.{length-set}
 use Rattle.std.proofs.lemmas.Bool.{cases_eq}
-use Rattle.rv_emulate.specs.States.{register, with_register}
+use Rattle.rv_emulate.specs.EmulatorStates.{register, with_register}
 use Rattle.rv_straight.specs.Registers.{IsFile, Writes, written, read, are, Knows}
 
 pub knows_start : (xs : List ℕ) → IsFile xs → Knows xs []

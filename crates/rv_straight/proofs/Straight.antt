@@ -3,14 +3,14 @@ use Rattle.std.proofs.Common.{◌≡◌, ℕ, zero, suc, ◌+◌, ◌*◌, ◌^�
 use Rattle.std.specs.Prelude.{slice_get}
 use Rattle.rv_isa.specs.declared.instr.Instr.{Instr}
 use Rattle.rv_isa.specs.declared.instr.Instr.TheVariants.{R, I, S, B, U, J, Ecall}
-use Rattle.rv_isa.specs.Words.{word_of, IsInstr}
+use Rattle.rv_isa.specs.InstrWords.{word_of, IsInstr}
 use Rattle.image_file.specs.Image.{Image}
-use Rattle.rv_emulate.specs.Memory.{Memory}
-use Rattle.rv_emulate.specs.States.{State, On, register}
-use Rattle.rv_emulate.specs.Steps.{word_at}
-use Rattle.rv_straight.specs.Ways.{IsBetween, Comes}
+use Rattle.rv_emulate.specs.EmulatorMemory.{Memory}
+use Rattle.rv_emulate.specs.EmulatorStates.{State, On, register}
+use Rattle.rv_emulate.specs.EmulatorSteps.{word_at}
+use Rattle.rv_straight.specs.InstalledWays.{IsBetween, Comes}
 use Rattle.rv_straight.specs.Registers.{Writes, written, read, Knows}
-use Rattle.rv_straight.specs.Effects.{effect, Given, Value, Leaves, Gives, target}
+use Rattle.rv_straight.specs.InstrEffects.{effect, Given, Value, Leaves, Gives, target}
 use Rattle.rv_straight.specs.Straight.{writes_with, memory_with, Follow, writes_after, memory_after, at}
 use Rattle.rv_straight.specs.Code.{StandAt, IsNext}
 use Rattle.rv_straight.specs.Laws.{after}

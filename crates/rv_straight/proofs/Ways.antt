@@ -2,15 +2,15 @@
 use Rattle.std.proofs.Common.{◌≡◌, ℕ, zero, suc, ◌+◌, ◌≤◌, Some, Bool, true, false, refl, sym, ap, subst, ◌∙◌, arith}
 use Rattle.rv_isa.specs.declared.instr.Instr.{Instr}
 use Rattle.rv_isa.specs.declared.instr.Instr.TheVariants.{R, I, S, B, U, J, Ecall}
-use Rattle.rv_isa.specs.Words.{word_of, IsInstr}
+use Rattle.rv_isa.specs.InstrWords.{word_of, IsInstr}
 use Rattle.rv_isa.proofs.Back.{decoded-word, one-word}
 use Rattle.image_file.specs.Image.{Image}
-use Rattle.rv_emulate.specs.States.{State, Outcome, On, Ended, register}
-use Rattle.rv_emulate.specs.Steps.{step, act, word_at, with_word, with_instr}
-use Rattle.rv_emulate.specs.Runs.{run, on_state}
-use Rattle.rv_emulate.specs.Ways.{Along}
+use Rattle.rv_emulate.specs.EmulatorStates.{State, Outcome, On, Ended, register}
+use Rattle.rv_emulate.specs.EmulatorSteps.{step, act, word_at, with_word, with_instr}
+use Rattle.rv_emulate.specs.EmulatorRuns.{run, on_state}
+use Rattle.rv_emulate.specs.AlongRuns.{Along}
 use Rattle.rv_emulate.proofs.RunLaws.{run-add}
-use Rattle.rv_straight.specs.Ways.{IsBetween, Permits, Comes}
+use Rattle.rv_straight.specs.InstalledWays.{IsBetween, Permits, Comes}
 
 pub step_at : (image : Image) (t : State) (i : Instr) → IsInstr i → word_at image.words t.pc ≡ Some (word_of i) → step image t ≡ act image i t
 unfolding step

@@ -1,11 +1,11 @@
 -- Where code stands in an image.
 use Rattle.std.specs.Prelude.{◌≡◌, ℕ, ◌+◌, ◌-◌, ◌*◌, ◌^◌, ◌%◌, ◌<◌, ◌≤◌, List, [], ◌∷◌, length, Some}
 use Rattle.rv_isa.specs.declared.instr.Instr.{Instr}
-use Rattle.rv_isa.specs.Words.{word_of, IsInstr}
+use Rattle.rv_isa.specs.InstrWords.{word_of, IsInstr}
 use Rattle.image_file.specs.Image.{Image}
-use Rattle.rv_emulate.specs.Steps.{word_at}
-use Rattle.rv_emulate.specs.States.{State}
-use Rattle.rv_straight.specs.Ways.{IsFree}
+use Rattle.rv_emulate.specs.EmulatorSteps.{word_at}
+use Rattle.rv_emulate.specs.EmulatorStates.{State}
+use Rattle.rv_straight.specs.InstalledWays.{IsFree}
 
 -- all of these have words
 abbrev pub AreInstrs : List Instr → Type 0

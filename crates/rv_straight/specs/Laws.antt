@@ -3,13 +3,13 @@ use Rattle.std.specs.Prelude.{◌≡◌, ℕ, ◌+◌, ◌-◌, ◌*◌, ◌%◌
 use Rattle.rv_isa.specs.declared.instr.BOp.{BOp}
 use Rattle.rv_isa.specs.declared.instr.Instr.{Instr}
 use Rattle.image_file.specs.Image.{Image}
-use Rattle.rv_emulate.specs.Memory.{Memory}
-use Rattle.rv_emulate.specs.States.{State, Outcome, On, register}
-use Rattle.rv_emulate.specs.Steps.{act, next_with}
-use Rattle.rv_emulate.specs.Values.{taken}
-use Rattle.rv_straight.specs.Ways.{Comes}
+use Rattle.rv_emulate.specs.EmulatorMemory.{Memory}
+use Rattle.rv_emulate.specs.EmulatorStates.{State, Outcome, On, register}
+use Rattle.rv_emulate.specs.EmulatorSteps.{act, next_with}
+use Rattle.rv_emulate.specs.InstrValues.{taken}
+use Rattle.rv_straight.specs.InstalledWays.{Comes}
 use Rattle.rv_straight.specs.Registers.{Writes, IsFile}
-use Rattle.rv_straight.specs.Effects.{effect, Given, Value, Leaves, Gives, target}
+use Rattle.rv_straight.specs.InstrEffects.{effect, Given, Value, Leaves, Gives, target}
 use Rattle.rv_straight.specs.Straight.{Follow, writes_after, memory_after, at}
 use Rattle.rv_straight.specs.Code.{AreInstrs, IsNext}
 use Rattle.rv_straight.specs.Constants.{constant_code, constant_length}

@@ -1,6 +1,6 @@
-pub mod Ways
+pub mod InstalledWays
 pub mod Registers
-pub mod Effects
+pub mod InstrEffects
 pub mod Straight
 pub mod Code
 pub mod Constants

@@ -2,9 +2,9 @@
 use Rattle.std.specs.Prelude.{ℕ, ◌+◌, ◌*◌, List, Bool}
 use Rattle.rv_isa.specs.declared.instr.Instr.{Instr}
 use Rattle.image_file.specs.Image.{Image}
-use Rattle.rv_emulate.specs.Memory.{Memory}
-use Rattle.rv_emulate.specs.States.{State, Outcome}
-use Rattle.rv_straight.specs.Ways.{Comes}
+use Rattle.rv_emulate.specs.EmulatorMemory.{Memory}
+use Rattle.rv_emulate.specs.EmulatorStates.{State, Outcome}
+use Rattle.rv_straight.specs.InstalledWays.{Comes}
 use Rattle.rv_straight.specs.Registers.{Writes, Knows}
 use Rattle.rv_straight.specs.Straight.{at}
 use Rattle.rv_straight.specs.Code.{IsNext}

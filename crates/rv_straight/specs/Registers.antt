@@ -1,6 +1,6 @@
 -- The register file, and writes to it.
 use Rattle.std.specs.Prelude.{◌≡◌, ℕ, zero, suc, ◌^◌, ◌<◌, List, [], ◌∷◌, length, Bool, true, false, ◌&&◌, ◌==◌, if◌then◌else◌}
-use Rattle.rv_emulate.specs.States.{register, with_register}
+use Rattle.rv_emulate.specs.EmulatorStates.{register, with_register}
 
 -- 32 registers, each of 64 bits
 pub record IsFile (xs : List ℕ) : Type 0 where

@@ -1,10 +1,10 @@
 -- Code without branches, on a list of writes to registers and one memory.
 use Rattle.std.specs.Prelude.{ℕ, suc, ◌+◌, ◌*◌, List, [], ◌∷◌}
 use Rattle.rv_isa.specs.declared.instr.Instr.{Instr}
-use Rattle.rv_emulate.specs.Memory.{Memory}
-use Rattle.rv_emulate.specs.States.{State}
+use Rattle.rv_emulate.specs.EmulatorMemory.{Memory}
+use Rattle.rv_emulate.specs.EmulatorStates.{State}
 use Rattle.rv_straight.specs.Registers.{Writes, written, read}
-use Rattle.rv_straight.specs.Effects.{effect, Given, Value, Leaves, Gives, target}
+use Rattle.rv_straight.specs.InstrEffects.{effect, Given, Value, Leaves, Gives, target}
 
 abbrev pub writes_with : Writes → Instr → Given → Writes
 writes_with ws i (Value v) = (target i, v) ∷ ws

@@ -5,7 +5,7 @@ pub mod Files
 pub mod Stores
 pub mod Logs
 pub mod MemoryStates
-pub mod Memory
+pub mod MemoryCalls
 pub mod Names
 pub mod Lines
 pub mod Faults

@@ -2,7 +2,7 @@
 ghost use Rattle.std.specs.Prelude.{◌≡◌, ◌≤◌, Some, []};
 ghost use Rattle.sil_base.specs.Causes.{Rose};
 ghost use Rattle.sil_base.specs.Sinks.{Puts};
-ghost use Rattle.sil_base.specs.Memory.{PutsInMemory};
+ghost use Rattle.sil_base.specs.MemoryCalls.{PutsInMemory};
 
 use crate::sink::{Put, Sink};
 use std::alloc::Global;

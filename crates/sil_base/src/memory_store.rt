@@ -4,7 +4,7 @@ ghost use Rattle.std.specs.Option.{option_map};
 ghost use Rattle.std.specs.FinMap as map;
 ghost use Rattle.sil_base.specs.Causes.{Rose, call_fails};
 ghost use Rattle.sil_base.specs.Stores.{Loads, Saves, LoadedWithin};
-ghost use Rattle.sil_base.specs.Memory.{LoadsFromMemory, SavesInMemory};
+ghost use Rattle.sil_base.specs.MemoryCalls.{LoadsFromMemory, SavesInMemory};
 ghost use Rattle.sil_base.specs.MemoryStates.{counted};
 
 use crate::record::Record;

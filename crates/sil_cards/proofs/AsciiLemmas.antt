@@ -12,14 +12,14 @@ use Rattle.sil_operands.specs.declared.operand.Operand.TheVariants.{Null, Expr, 
 use Rattle.sil_operands.specs.declared.expr.Factor.{Factor}
 use Rattle.sil_operands.specs.declared.expr.Factor.TheVariants.{Name, Number}
 use Rattle.sil_operands.specs.declared.expr.Term.{Term}
-use Rattle.sil_operands.specs.Grammar.{field_text}
+use Rattle.sil_operands.specs.OperandGrammar.{field_text}
 use Rattle.sil_operands.specs.Limits.{card_limits}
 use Rattle.sil_base.specs.Names.{is_name, is_number, value_of}
-use Rattle.sil_operands.specs.Reading.{parts_at, each, factor_in, term_in, terms_of, expr_in, list_in, text_in, operand_in, operand_parts, separates, place_after}
+use Rattle.sil_operands.specs.OperandReading.{parts_at, each, factor_in, term_in, terms_of, expr_in, list_in, text_in, operand_in, operand_parts, separates, place_after}
 use Rattle.sil_cards.proofs.Booleans.{both, and_true}
-use Rattle.sil_cards.specs.Fields.{is_blank, after_word, quoted_after, to_open_blank, fields_of}
+use Rattle.sil_cards.specs.CardFields.{is_blank, after_word, quoted_after, to_open_blank, fields_of}
 use Rattle.sil_operands.specs.Simple.{one_name, named_alone, is_null}
-use Rattle.sil_cards.specs.Verdicts.{is_card_byte, some_text, file_of, file_named, copied_file}
+use Rattle.sil_cards.specs.CardVerdicts.{is_card_byte, some_text, file_of, file_named, copied_file}
 
 all_drop : (p : ℕ → Bool) (n : ℕ) (xs : List ℕ) → list_all p xs ≡ true → list_all p (drop n xs) ≡ true
 all_drop p zero xs h = h

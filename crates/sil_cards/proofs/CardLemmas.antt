@@ -14,12 +14,12 @@ use Rattle.sil_cards.specs.declared.verdict.Verdict.{Verdict}
 use Rattle.sil_cards.specs.declared.verdict.Verdict.TheVariants.{Skipped, Broken, Copies, Taken}
 use Rattle.sil_cards.specs.CardParts.{CardParts}
 use Rattle.sil_cards.specs.Cards.{IsEnd, IsGood, EndsOnce, AreCards, numbers_of, card_at}
-use Rattle.sil_cards.specs.Fields.{Fields, fields_of, is_comment}
+use Rattle.sil_cards.specs.CardFields.{Fields, fields_of, is_comment}
 use Rattle.sil_cards.specs.Readings.{given_cards, given_faults, limited, is_full}
-use Rattle.sil_cards.specs.Steps.{AreFirst, IsGoing, HasEnded, StepKeeps, step_of}
+use Rattle.sil_cards.specs.CardSteps.{AreFirst, IsGoing, HasEnded, StepKeeps, step_of}
 use Rattle.sil_cards.specs.declared.reader.Reader.{Reader}
 use Rattle.sil_base.specs.Names.{is_word}
-use Rattle.sil_cards.specs.Verdicts.{is_card_byte, is_macro, is_label, has_operands, copied_file, copy_verdict, other_verdict, verdict_of_fields, verdict, is_end}
+use Rattle.sil_cards.specs.CardVerdicts.{is_card_byte, is_macro, is_label, has_operands, copied_file, copy_verdict, other_verdict, verdict_of_fields, verdict, is_end}
 
 -- ---- a card that is taken
 

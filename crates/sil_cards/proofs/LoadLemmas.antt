@@ -14,7 +14,7 @@ use Rattle.sil_cards.specs.declared.verdict.Verdict.{Verdict}
 use Rattle.sil_cards.specs.declared.verdict.Verdict.TheVariants.{Skipped, Broken, Copies, Taken}
 use Rattle.sil_cards.specs.CardParts.{CardParts}
 use Rattle.sil_base.specs.Lines.{lines_of, without_end}
-use Rattle.sil_cards.specs.Verdicts.{verdict, is_end}
+use Rattle.sil_cards.specs.CardVerdicts.{verdict, is_end}
 use Rattle.sil_cards.specs.Reads.{Read, Opened, Refused, ReadLine, copied, lines_read, card_stop, text_of, text_read, file_read}
 use Rattle.sil_cards.specs.Readings.{Reading, nothing, is_full, limited, with_line, reading, reading_of, answer_of, cards_of, StopsAt}
 

@@ -9,14 +9,14 @@ use Rattle.sil_cards.proofs.Booleans.{is_true}
 use Rattle.sil_cards.specs.declared.reader.Reader.{Reader}
 use Rattle.sil_cards.specs.declared.verdict.Verdict.{Verdict}
 use Rattle.sil_cards.specs.declared.verdict.Verdict.TheVariants.{Skipped, Broken, Copies, Taken}
-use Rattle.sil_cards.specs.Fields.{Fields, fields_of, is_comment}
+use Rattle.sil_cards.specs.CardFields.{Fields, fields_of, is_comment}
 use Rattle.sil_base.specs.Lines.{lines_of, without_end}
 use Rattle.sil_cards.specs.Reads.{Read, ReadLine, lines_read, file_read}
 use Rattle.sil_cards.specs.Readings.{reading_of, cards_of}
-use Rattle.sil_cards.specs.Steps.{Answer, going_on, step_of, StepCopies}
+use Rattle.sil_cards.specs.CardSteps.{Answer, going_on, step_of, StepCopies}
 use Rattle.sil_cards.proofs.AsciiLemmas.{file_ascii}
 use Rattle.sil_base.specs.Names.{is_word}
-use Rattle.sil_cards.specs.Verdicts.{is_card_byte, is_label, is_macro, has_operands, copied_file, copy_verdict, other_verdict, verdict}
+use Rattle.sil_cards.specs.CardVerdicts.{is_card_byte, is_label, is_macro, has_operands, copied_file, copy_verdict, other_verdict, verdict}
 
 -- ---- a COPY that is followed
 

@@ -2,9 +2,9 @@
 use Rattle.std.specs.Prelude.{◌≡◌, ℕ, true, false, ◌||◌, List, [], ◌∷◌, map, codes, All}
 use Rattle.std.specs.List.Sorted.{IsStrictlyIncreasing}
 use Rattle.sil_cards.specs.CardParts.{CardParts}
-use Rattle.sil_cards.specs.Fields.{fields_of}
+use Rattle.sil_cards.specs.CardFields.{fields_of}
 use Rattle.sil_base.specs.Names.{is_word}
-use Rattle.sil_cards.specs.Verdicts.{is_macro, is_label, has_operands}
+use Rattle.sil_cards.specs.CardVerdicts.{is_macro, is_label, has_operands}
 
 -- the card of a text
 abbrev pub card_at : ℕ → List ℕ → CardParts

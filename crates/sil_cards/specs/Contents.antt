@@ -5,7 +5,7 @@ use Rattle.sil_macros.specs.declared.names.Macro.{Macro}
 use Rattle.sil_macros.specs.declared.names.Macro.TheVariants as macros
 use Rattle.sil_macros.specs.Macros.{with_name}
 use Rattle.sil_operands.specs.declared.operand.Operand.{Operand}
-use Rattle.sil_operands.specs.Reading.{operands_of}
+use Rattle.sil_operands.specs.OperandReading.{operands_of}
 
 -- the macro of an operation, which is the name of one in every card that is read
 unfoldable pub operation_of : List ℕ → Macro

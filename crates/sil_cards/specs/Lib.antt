@@ -1,9 +1,9 @@
-pub mod Fields
-pub mod Held
-pub mod Verdicts
+pub mod CardFields
+pub mod HeldFields
+pub mod CardVerdicts
 pub mod CardParts
 pub mod Contents
 pub mod Cards
 pub mod Reads
 pub mod Readings
-pub mod Steps
+pub mod CardSteps

@@ -13,7 +13,7 @@ use Rattle.sil_cards.specs.declared.stop.CardStop.TheVariants as stop
 use Rattle.sil_cards.specs.declared.verdict.Verdict.{Verdict}
 use Rattle.sil_cards.specs.declared.verdict.Verdict.TheVariants.{Broken, Taken}
 use Rattle.sil_base.specs.Lines.{without_end}
-use Rattle.sil_cards.specs.Verdicts.{verdict, is_end}
+use Rattle.sil_cards.specs.CardVerdicts.{verdict, is_end}
 use Rattle.sil_cards.specs.CardParts.{CardParts}
 use Rattle.sil_cards.specs.Cards.{card_at}
 use Rattle.sil_cards.specs.Reads.{Read, Opened, Refused, ReadLine, file_read}

@@ -13,7 +13,7 @@ use Rattle.sil_cards.specs.declared.stop.CardStop.TheVariants as stop
 use Rattle.sil_cards.specs.declared.verdict.Verdict.{Verdict}
 use Rattle.sil_cards.specs.declared.verdict.Verdict.TheVariants.{Copies}
 use Rattle.sil_base.specs.Lines.{lines_of, without_end}
-use Rattle.sil_cards.specs.Verdicts.{verdict}
+use Rattle.sil_cards.specs.CardVerdicts.{verdict}
 
 -- a file that is read; one that can't be; or a line, with its end, in a file where files may be so many levels deeper
 pub data Read : Type 0 where

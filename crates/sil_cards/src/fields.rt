@@ -1,8 +1,8 @@
 // The fields of a card.
 ghost use Rattle.std.specs.Prelude.{◌≡◌, ◌≤◌, length, false, not, position};
 ghost use Rattle.std.specs.List.{before_first, position_or_len, list_all};
-ghost use Rattle.sil_cards.specs.Fields.{is_blank, after_word, quoted_after, to_open_blank, is_comment, fields_of};
-ghost use Rattle.sil_cards.specs.Held.{fields_held};
+ghost use Rattle.sil_cards.specs.CardFields.{is_blank, after_word, quoted_after, to_open_blank, is_comment, fields_of};
+ghost use Rattle.sil_cards.specs.HeldFields.{fields_held};
 
 /// The label, the operation and the operands of a card.
 #[derive(Clone, Copy)]
@@ -79,7 +79,7 @@ fn to_open_blank(text: &[u8]) -> &[u8]
 }
 
 /// The fields of a card.
-#[tactic(auto, unfolding(crate::specs::Fields::fields_of))]
+#[tactic(auto, unfolding(crate::specs::CardFields::fields_of))]
 pub(crate) fn fields_of(text: &[u8]) -> Fields<'_>
     ensures { fields_held result ≡ fields_of text.now }
 {
@@ -99,7 +99,7 @@ fn are_blanks(text: &[u8]) -> bool
 }
 
 /// Whether a card begins with `*`, or has nothing but blanks.
-#[tactic(auto, unfolding(crate::specs::Fields::is_comment))]
+#[tactic(auto, unfolding(crate::specs::CardFields::is_comment))]
 pub(crate) fn is_comment(text: &[u8]) -> bool
     ensures { result ≡ is_comment text.now }
 {

@@ -2,12 +2,12 @@
 ghost use Rattle.std.specs.Prelude.{◌≡◌, ◌+◌, ◌≤◌, ◌++◌, ◌∷◌, ◌||◌, List, [], length, IfOk, IfErr, OnOk, MatchResult, Ok, Err, false};
 ghost use Rattle.sil_base.specs.Lines.{without_end};
 ghost use Rattle.sil_cards.specs.Cards.{AreCards};
-ghost use Rattle.sil_cards.specs.Verdicts.{is_end};
+ghost use Rattle.sil_cards.specs.CardVerdicts.{is_end};
 ghost use Rattle.sil_cards.specs.Reads.{Read, ReadLine};
 ghost use Rattle.sil_cards.specs.Readings.{is_full, limited, card_fault, given_cards, given_faults};
-ghost use Rattle.sil_cards.specs.Fields.{fields_of};
+ghost use Rattle.sil_cards.specs.CardFields.{fields_of};
 ghost use Rattle.sil_cards.specs.Contents.{AreContents};
-ghost use Rattle.sil_cards.specs.Steps.{going_on, ended, after_step, after_flow, is_free, FlowKeeps, IsFaults, NoLoad, step_of, StepCopies, StepKeeps, IsGoing, HasEnded};
+ghost use Rattle.sil_cards.specs.CardSteps.{going_on, ended, after_step, after_flow, is_free, FlowKeeps, IsFaults, NoLoad, step_of, StepCopies, StepKeeps, IsGoing, HasEnded};
 
 use crate::card::Card;
 use crate::fields::fields_of;

@@ -5,7 +5,7 @@ ghost use Rattle.sil_base.specs.Files.{Files};
 ghost use Rattle.sil_cards.specs.Cards.{AreCards};
 ghost use Rattle.sil_cards.specs.Reads.{Read, file_read, text_at};
 ghost use Rattle.sil_cards.specs.Readings.{cards_of, loads_of, StopsAt};
-ghost use Rattle.sil_cards.specs.Steps.{going_on, after_flow, FlowKeeps, IsGoing, is_free, StopCause};
+ghost use Rattle.sil_cards.specs.CardSteps.{going_on, after_flow, FlowKeeps, IsGoing, is_free, StopCause};
 
 use crate::card::Card;
 use crate::reader::{Flow, Reader, Step};

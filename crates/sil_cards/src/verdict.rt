@@ -2,10 +2,10 @@
 ghost use Rattle.std.specs.Prelude.{◌≡◌, [], IfOk, codes, option_map, option_and_then, unwrap_or, if◌then◌else◌};
 ghost use Rattle.std.specs.List.{list_all};
 ghost use Rattle.sil_base.specs.Names.{is_word};
-ghost use Rattle.sil_cards.specs.Verdicts.{is_card_byte, is_label, some_text, file_of, file_named, copy_verdict, other_verdict, verdict_of_fields, verdict, is_end};
-ghost use Rattle.sil_operands.specs.Reading.{operands_of};
-ghost use Rattle.sil_cards.specs.Fields.{fields_of};
-ghost use Rattle.sil_cards.specs.Held.{fields_held};
+ghost use Rattle.sil_cards.specs.CardVerdicts.{is_card_byte, is_label, some_text, file_of, file_named, copy_verdict, other_verdict, verdict_of_fields, verdict, is_end};
+ghost use Rattle.sil_operands.specs.OperandReading.{operands_of};
+ghost use Rattle.sil_cards.specs.CardFields.{fields_of};
+ghost use Rattle.sil_cards.specs.HeldFields.{fields_held};
 ghost use Rattle.sil_cards.specs.Contents.{AreContents};
 
 use crate::fields::{Fields, fields_of, is_comment};
@@ -160,7 +160,7 @@ fn other_verdict(f: &Fields<'_>, fits: bool) -> Verdict
     }
 }
 
-#[tactic(auto, unfolding(crate::specs::Verdicts::is_macro, crate::specs::Verdicts::has_operands, crate::specs::Verdicts::copied_file, crate::specs::Contents::operation_of, crate::specs::Contents::operands_at))]
+#[tactic(auto, unfolding(crate::specs::CardVerdicts::is_macro, crate::specs::CardVerdicts::has_operands, crate::specs::CardVerdicts::copied_file, crate::specs::Contents::operation_of, crate::specs::Contents::operands_at))]
 fn judge_fields(alloc: Global, f: &Fields<'_>, deeper: u8) -> Result<Judged, AllocError>
     ensures verdict { IfOk result (λ j. j.verdict ≡ verdict_of_fields deeper (fields_held f.now)) }
     ensures contents { IfOk result (λ j. j.verdict ≡ Verdict.Taken
@@ -182,7 +182,7 @@ fn judge_fields(alloc: Global, f: &Fields<'_>, deeper: u8) -> Result<Judged, All
 }
 
 /// What a card is in a file, where files may be so many levels deeper.
-#[tactic(auto, unfolding(crate::specs::Verdicts::verdict))]
+#[tactic(auto, unfolding(crate::specs::CardVerdicts::verdict))]
 pub(crate) fn judge(alloc: Global, text: &[u8], deeper: u8) -> Result<Judged, AllocError>
     ensures verdict { IfOk result (λ j. j.verdict ≡ verdict deeper text.now) }
     ensures contents { IfOk result (λ j. j.verdict ≡ Verdict.Taken
@@ -201,7 +201,7 @@ pub(crate) fn judge(alloc: Global, text: &[u8], deeper: u8) -> Result<Judged, Al
 }
 
 /// Whether a card is END.
-#[tactic(auto, unfolding(crate::specs::Verdicts::is_end))]
+#[tactic(auto, unfolding(crate::specs::CardVerdicts::is_end))]
 pub(crate) fn is_end(text: &[u8]) -> bool
     ensures { result ≡ is_end text.now }
 {

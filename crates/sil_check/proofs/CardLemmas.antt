@@ -10,18 +10,18 @@ use Rattle.sil_macros.specs.declared.names.Macro.TheVariants as macros
 use Rattle.sil_macros.specs.Macros as names
 use Rattle.sil_cards.specs.CardParts.{CardParts}
 use Rattle.sil_base.specs.Names.{is_word}
-use Rattle.sil_cards.specs.Verdicts.{is_macro}
+use Rattle.sil_cards.specs.CardVerdicts.{is_macro}
 use Rattle.sil_cards.specs.Cards as cards
 use Rattle.sil_cards.specs.Cards.{IsGood}
-use Rattle.sil_symbols.specs.Parts.{part_of, is_end}
-use Rattle.sil_symbols.specs.Rules as rules
+use Rattle.sil_symbols.specs.StatementParts.{part_of, is_end}
+use Rattle.sil_symbols.specs.SymbolRules as rules
 use Rattle.sil_operands.specs.declared.operand.Operand.{Operand}
-use Rattle.sil_operands.specs.Grammar.{SpellsOperands}
+use Rattle.sil_operands.specs.OperandGrammar.{SpellsOperands}
 use Rattle.sil_operands.specs.Limits.{are_within_limits}
-use Rattle.sil_operands.specs.Reading.{operands_of}
+use Rattle.sil_operands.specs.OperandReading.{operands_of}
 use Rattle.sil_symbols.specs.declared.stmt.Stmt.{Stmt}
 use Rattle.sil_cards.specs.Contents.{operation_of, operands_at}
-use Rattle.sil_check.specs.Held.{HaveShortLists}
+use Rattle.sil_check.specs.HeldPrograms.{HaveShortLists}
 use Rattle.sil_check.specs.Statements.{statement_of, statements_of}
 
 -- ---- macros by their names

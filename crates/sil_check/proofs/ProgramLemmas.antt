@@ -11,15 +11,15 @@ use Rattle.layout_params.specs.Sizes.{packed_16, value_limit}
 use Rattle.layout_params.specs.Parameters.{Parameters, Settings}
 use Rattle.sil_macros.specs.declared.names.Macro.{Macro}
 use Rattle.sil_macros.specs.declared.names.Macro.TheVariants as macros
-use Rattle.sil_macros.specs.Rows.{row}
+use Rattle.sil_macros.specs.MacroRows.{row}
 use Rattle.sil_symbols.specs.declared.stmt.Stmt.{Stmt}
 use Rattle.sil_base.specs.declared.line.Fault.{Fault}
 use Rattle.sil_operands.specs.Limits.{are_within_limits}
 use Rattle.sil_symbols.specs.Laws.{LawOfValues}
-use Rattle.sil_symbols.specs.Parts.{part_of, is_format}
-use Rattle.sil_symbols.specs.Rules.{faults_from, with_fault}
+use Rattle.sil_symbols.specs.StatementParts.{part_of, is_format}
+use Rattle.sil_symbols.specs.SymbolRules.{faults_from, with_fault}
 use Rattle.sil_shapes.specs.Locations.{executable_count, statement_at, number_within}
-use Rattle.data_asm.specs.Fields.{first_text}
+use Rattle.data_asm.specs.DataFields.{first_text}
 use Rattle.sil_symbols.specs.Addresses.{cells_of, past_part, past, spot_after, first_spot}
 use Rattle.sil_symbols.specs.Symbols.{size_names, value_of_name, extent, IsWithinLimits}
 use Rattle.sil_base.specs.declared.places.TheConstants.{FIRST_CELL}
@@ -33,16 +33,17 @@ use Rattle.sil_model.specs.declared.program.Specials.{Specials}
 use Rattle.sil_model.specs.Built.{AreBuilt, AreStatic, IsBuilt, IsStatic, is_built}
 use Rattle.sil_model.specs.Fits.{Bounds, FitsRow, IsStatement, bounds_of}
 use Rattle.sil_model.specs.Needs.{has_needed}
-use Rattle.sil_format.specs.Grammar.{IsFormat}
+use Rattle.sil_format.specs.FormatGrammar.{IsFormat}
 use Rattle.sil_model.specs.WellFormed.{AreSpecials, IsWellFormed}
 use Rattle.syntax_tables.specs.declared.saying.Said.{Said}
-use Rattle.sil_check.specs.Arguments.{is_descriptor, is_descriptor_at, is_static, Scope, scope_of, and_before, args_of}
+use Rattle.sil_arguments.specs.MadeArguments.{Scope, scope_of, and_before, args_of}
+use Rattle.sil_check.specs.StaticPlaces.{is_descriptor, is_descriptor_at, is_static}
 use Rattle.sil_check.specs.Specials.{special_faults, special_rule, specials_in}
 use Rattle.sil_check.specs.Programs.{formats_of, statement_with, machine_statement, machine_statements, program_with, is_static_program, is_static_statement}
 use Rattle.sil_check.specs.Verdicts.{is_assembled, is_built_macro, is_built_statement}
-use Rattle.sil_check.specs.Held.{HasFitPlaces, HaveShortLists, IsProgramOf}
-use Rattle.sil_check.proofs.ArgLemmas.{IsFirst, args_fit, both, first_is}
-use Rattle.sil_check.proofs.ScopeLemmas.{IsScope, scope_is}
+use Rattle.sil_check.specs.HeldPrograms.{HasFitPlaces, HaveShortLists, IsProgramOf}
+use Rattle.sil_arguments.proofs.ArgLemmas.{IsFirst, IsScope, args_fit, both, first_is}
+use Rattle.sil_check.proofs.ScopeLemmas.{scope_is}
 
 -- ---- places
 

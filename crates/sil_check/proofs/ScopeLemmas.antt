@@ -11,26 +11,19 @@ use Rattle.sil_base.specs.declared.places.TheConstants.{FIRST_ENTRY}
 use Rattle.sil_operands.specs.declared.expr.Term.{Term}
 use Rattle.sil_symbols.specs.declared.stmt.Stmt.{Stmt}
 use Rattle.sil_symbols.specs.Laws.{LawOfValues}
-use Rattle.sil_symbols.specs.Parts.{part_of, is_format}
+use Rattle.sil_symbols.specs.StatementParts.{part_of, is_format}
 use Rattle.sil_symbols.specs.Labels.{labelled}
 use Rattle.sil_symbols.specs.Symbols.{value_of, format_of}
 use Rattle.sil_operands.specs.Simple.{named_alone}
 use Rattle.sil_shapes.specs.Locations.{executable_count, statement_at, number_within}
-use Rattle.sil_shapes.specs.Rules.{flags_of, format_at, location_of}
+use Rattle.sil_shapes.specs.ShapeRules.{flags_of, format_at, location_of}
 use Rattle.syntax_tables.specs.declared.saying.Said.{Said}
-use Rattle.syntax_tables.specs.Files.{names_in, table_named}
-use Rattle.data_asm.specs.Fields.{first_text}
+use Rattle.syntax_tables.specs.TableFiles.{names_in, table_named}
+use Rattle.data_asm.specs.DataFields.{first_text}
 use Rattle.sil_model.specs.Fits.{Bounds}
-use Rattle.sil_check.specs.Arguments.{Scope, scope_of, text_at}
+use Rattle.sil_arguments.specs.MadeArguments.{scope_of, text_at}
+use Rattle.sil_arguments.proofs.ArgLemmas.{IsScope}
 use Rattle.sil_check.specs.Programs.{formats_of}
-
--- what names stand for is within these bounds
-pub record IsScope (b : Bounds) (scope : Scope) : Type 0 where
-  pub values : (terms : List Term) (z : ℤ) → scope.measure.values terms ≡ Some z → FitsSigned w64 z
-  pub locations : (terms : List Term) (k : ℕ) → location_of scope.measure terms ≡ Some k → k < b.statements
-  pub flags : (terms : List Term) (f : ℕ) → flags_of scope.measure terms ≡ Some f → f ≤ b.flag_limit
-  pub tables : (name : List ℕ) (t : ℕ) → scope.tables name ≡ Some t → t < b.tables
-  pub texts : (terms : List Term) (text : List ℕ) → option_and_then scope.texts (format_at scope.measure terms) ≡ Some text → Contains b.formats text
 
 -- ---- locations and flags
 

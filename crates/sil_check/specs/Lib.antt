@@ -1,8 +1,8 @@
 pub mod Statements
 pub mod Standard
-pub mod Arguments
-pub mod Tables
+pub mod StaticPlaces
+pub mod TableFaults
 pub mod Specials
 pub mod Programs
 pub mod Verdicts
-pub mod Held
+pub mod HeldPrograms

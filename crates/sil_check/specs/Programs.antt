@@ -3,18 +3,19 @@ use Rattle.std.specs.Prelude.{ℕ, List, [], ◌∷◌, Option, Some, option_map
 use Rattle.std.specs.List.{list_all}
 use Rattle.layout_params.specs.declared.cell.Cell.{Cell}
 use Rattle.layout_params.specs.Parameters.{Parameters}
-use Rattle.sil_macros.specs.Rows.{row}
+use Rattle.sil_macros.specs.MacroRows.{row}
 use Rattle.sil_symbols.specs.declared.stmt.Stmt.{Stmt}
-use Rattle.sil_symbols.specs.Parts.{part_of, is_format}
+use Rattle.sil_symbols.specs.StatementParts.{part_of, is_format}
 use Rattle.sil_symbols.specs.Symbols.{value_of}
 use Rattle.syntax_tables.specs.declared.saying.Said.{Said}
 use Rattle.syntax_tables.specs.Tables.{tables_of}
-use Rattle.data_asm.specs.Fields.{first_text}
+use Rattle.data_asm.specs.DataFields.{first_text}
 use Rattle.data_asm.specs.Cells.{static_cells_of}
 use Rattle.sil_model.specs.declared.program.Arg.{Arg}
 use Rattle.sil_model.specs.declared.program.Program.{Program}
 use Rattle.sil_model.specs.declared.program.Statement.{Statement}
-use Rattle.sil_check.specs.Arguments.{Scope, scope_of, args_of, and_before, is_static}
+use Rattle.sil_arguments.specs.MadeArguments.{Scope, scope_of, args_of, and_before}
+use Rattle.sil_check.specs.StaticPlaces.{is_static}
 use Rattle.sil_check.specs.Specials.{specials_in}
 
 abbrev pub statement_with : Stmt → List Arg → Statement

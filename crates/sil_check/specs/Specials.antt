@@ -4,7 +4,7 @@ use Rattle.layout_params.specs.Parameters.{Parameters}
 use Rattle.layout_params.specs.Sizes.{value_limit}
 use Rattle.sil_base.specs.declared.line.Fault.{Fault}
 use Rattle.sil_symbols.specs.declared.stmt.Stmt.{Stmt}
-use Rattle.sil_symbols.specs.Rules.{faults_from}
+use Rattle.sil_symbols.specs.SymbolRules.{faults_from}
 use Rattle.sil_symbols.specs.Symbols.{value_of_name}
 use Rattle.sil_shapes.specs.Locations.{executable_count, statement_at, number_within}
 use Rattle.sil_model.specs.declared.program.Specials.{Specials}

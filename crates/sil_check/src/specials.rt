@@ -2,10 +2,10 @@
 ghost use Rattle.std.specs.Prelude.{◌≡◌, option_and_then, IfOk};
 ghost use Rattle.layout_params.specs.Sizes.{value_limit};
 ghost use Rattle.sil_symbols.specs.Symbols.{value_of_name};
-ghost use Rattle.sil_shapes.specs.Held.{IsResolution};
+ghost use Rattle.sil_shapes.specs.HeldSources.{IsResolution};
 ghost use Rattle.sil_shapes.specs.Locations.{executable_count, statement_at, number_within};
 ghost use Rattle.sil_model.specs.Needs.{has_needed};
-ghost use Rattle.sil_check.specs.Held.{HasFitPlaces};
+ghost use Rattle.sil_check.specs.HeldPrograms.{HasFitPlaces};
 ghost use Rattle.sil_check.specs.Specials.{specials_in, special_rule, special_faults};
 
 use layout_params::Layout;

@@ -12,7 +12,7 @@ use Rattle.sil_cli.specs.declared.ending.Stop.{Stop}
 use Rattle.sil_cli.specs.declared.ending.Stop.TheVariants as stop
 use Rattle.sil_cli.specs.Answer.{IsMissing, IsTooLong, IsParameterFault, AreFaults, IsNoted, IsUnless}
 use Rattle.sil_cli.specs.Endings.{run_status, stop_status, status_of, is_free, is_free_end, IsProgramEnd}
-use Rattle.sil_cli.specs.Files.{StopCause}
+use Rattle.sil_cli.specs.CommandFiles.{StopCause}
 use Rattle.sil_cli.specs.Noted.{settled}
 use Rattle.sil_cli.specs.Report.{EndingCause, finish_status}
 

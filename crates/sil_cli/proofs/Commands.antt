@@ -22,11 +22,11 @@ use Rattle.sil_cli.specs.declared.ending.Stop.{Stop}
 use Rattle.sil_cli.specs.declared.ending.Stop.TheVariants as stop
 use Rattle.sil_cli.specs.Answer.{Performs, StopsSo}
 use Rattle.sil_cli.specs.Endings.{ending_of, is_free, is_free_end, IsProgramEnd}
-use Rattle.sil_cli.specs.Files.{StopCause, IsCheckStop, SavesOr}
+use Rattle.sil_cli.specs.CommandFiles.{StopCause, IsCheckStop, SavesOr}
 use Rattle.sil_cli.specs.Inputs.{Job, job_at}
 use Rattle.sil_cli.specs.Report.{Comes, Keeps, Causes, EndingCause, has_run}
-use Rattle.sil_cli.specs.Runs.{RunsBytes}
-use Rattle.sil_cli.specs.Words.{Order}
+use Rattle.sil_cli.specs.ImageRuns.{RunsBytes}
+use Rattle.sil_cli.specs.CommandWords.{Order}
 use Rattle.sil_cli.proofs.SoFar.{IsSoFar, has-end, run-so-far}
 use Rattle.sil_cli.proofs.Maps.{remove-insert}
 

@@ -5,9 +5,9 @@ use Rattle.unit_io.specs.Tapes.{Tapes}
 use Rattle.image_file.specs.Image.{Image}
 use Rattle.rv_emulate.specs.declared.end.CpuEnd.{CpuEnd}
 use Rattle.rv_emulate.specs.Cpus.{CpuState, stands, stands_with, state, is_told}
-use Rattle.rv_emulate.specs.States.{State, Outcome, On, Ended, start}
-use Rattle.rv_emulate.specs.Runs.{run, on_state, end_of, tapes_of, emulation, budget}
-use Rattle.sil_cli.specs.Runs.{RunsSo}
+use Rattle.rv_emulate.specs.EmulatorStates.{State, Outcome, On, Ended, start}
+use Rattle.rv_emulate.specs.EmulatorRuns.{run, on_state, end_of, tapes_of, emulation, budget}
+use Rattle.sil_cli.specs.ImageRuns.{RunsSo}
 
 stands-tapes : (ended : Option CpuEnd) (s : State) → tapes_of (stands_with ended s) ≡ s.tapes
 stands-tapes None s = refl

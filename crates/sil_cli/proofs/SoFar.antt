@@ -24,7 +24,7 @@ use Rattle.sil_model.specs.Sites.{Site}
 use Rattle.sil_model.specs.Table.{clause}
 use Rattle.sil_model.specs.Machine.{settle, make_step, with_statement, after_step, ended, run}
 use Rattle.sil_model.specs.Memory.{Memory}
-use Rattle.unit_io.specs.Runs.{Run}
+use Rattle.unit_io.specs.RunEnds.{Run}
 use Rattle.sil_model.specs.States.{State, Step, Goes, Ends}
 
 abbrev pub IsSoFar : Option End → Type 0

@@ -12,7 +12,7 @@ use Rattle.sil_cli.specs.Answer.{Answers, Finishes, StopsSo, IsStopped, IsMissin
 use Rattle.sil_cli.specs.Endings.{stop_status, status_of, is_free, is_free_end}
 use Rattle.sil_cli.specs.Noted.{settled}
 use Rattle.sil_cli.specs.Report.{Comes, stage_of, has_run, finish_status}
-use Rattle.sil_cli.specs.Words.{Order}
+use Rattle.sil_cli.specs.CommandWords.{Order}
 use Rattle.sil_cli.proofs.Codes.{is_run_code, is_stop_code, code-apart, words-of, store-of, stopped-of, missing-of, too-long-of, parameters-of, faults-of, not-built-of, free-of, status-kept, put-failed, settled-noted, noted-unless, free-unless}
 
 -- the finishes of a command that didn't run

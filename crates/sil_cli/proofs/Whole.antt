@@ -25,10 +25,10 @@ use Rattle.sil_cli.specs.Headline.{HasJob, FinishesTapes, Reports, Does, Headlin
 use Rattle.sil_base.specs.declared.limits.TheConstants.{MAX_FILE_BYTES}
 use Rattle.sil_cli.specs.Inputs.{Cards, on_result, and_then, source_by, inputs_of, unless_faulty, parameters_by, job_in, job_at}
 use Rattle.sil_base.specs.Loads.{of_file, stopping}
-use Rattle.sil_cli.specs.Files.{loaded, stop_by_load}
+use Rattle.sil_cli.specs.CommandFiles.{loaded, stop_by_load}
 use Rattle.sil_cli.specs.Noted.{Noted, settled}
 use Rattle.sil_cli.specs.Report.{Comes, EndingCause, ran, has_run, text_of, finish_status}
-use Rattle.sil_cli.specs.Words.{Order}
+use Rattle.sil_cli.specs.CommandWords.{Order}
 use Rattle.sil_cli.proofs.Codes.{free-of, store-of, twelve-stays}
 
 -- ---- the files

@@ -13,7 +13,7 @@ use Rattle.sil_cli.specs.Report.{Comes, Leaves, Causes, has_run, text_of, finish
 use Rattle.sil_cli.specs.declared.ending.Stop.{Stop}
 use Rattle.sil_cli.specs.declared.ending.Stop.TheVariants as stops
 use Rattle.sil_cli.specs.Inputs.{job_at}
-use Rattle.sil_cli.specs.Words.{Order}
+use Rattle.sil_cli.specs.CommandWords.{Order}
 use Rattle.sil_base.specs.declared.line.Fault.{Fault}
 
 -- the finishes that follow a run, and none without one

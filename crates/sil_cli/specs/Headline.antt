@@ -8,7 +8,7 @@ use Rattle.unit_io.specs.Tapes.{Tapes, all_told, finished_tapes, failed_finishes
 use Rattle.unit_io.specs.Units.{AllUnits, tapes_of}
 use Rattle.layout_params.specs.Parameters.{Parameters}
 use Rattle.layout_params.specs.Entries.{values_of}
-use Rattle.layout_params.specs.Faults.{parameter_fault}
+use Rattle.layout_params.specs.ParameterFaults.{parameter_fault}
 use Rattle.sil_cards.specs.CardParts.{CardParts}
 use Rattle.sil_cards.specs.Readings.{cards_of}
 use Rattle.sil_model.specs.declared.end.End.{End}
@@ -21,7 +21,7 @@ use Rattle.sil_cli.specs.declared.ending.Ending.TheVariants as ending
 use Rattle.sil_cli.specs.Endings.{run_status}
 use Rattle.sil_base.specs.declared.limits.TheConstants.{MAX_FILE_BYTES}
 use Rattle.sil_cli.specs.Report.{text_of, finish_status}
-use Rattle.sil_cli.specs.Words.{Order}
+use Rattle.sil_cli.specs.CommandWords.{Order}
 
 -- the files of an order: legal parameters with these values, tables, and a source whose cards have no fault and pass the check with this program
 pub record HasJob (order : Order) (files : Files) (program : Program) (parameters : Parameters) : Type 0 where

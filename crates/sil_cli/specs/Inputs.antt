@@ -7,7 +7,7 @@ use Rattle.sil_base.specs.Files.{Files}
 use Rattle.sil_base.specs.declared.line.Fault.{Fault}
 use Rattle.layout_params.specs.Parameters.{Parameters}
 use Rattle.layout_params.specs.Entries.{values_of}
-use Rattle.layout_params.specs.Faults.{parameter_fault}
+use Rattle.layout_params.specs.ParameterFaults.{parameter_fault}
 use Rattle.sil_cards.specs.CardParts.{CardParts}
 use Rattle.sil_cards.specs.Readings.{cards_of}
 use Rattle.sil_cards.specs.declared.stop.CardStop.{CardStop}
@@ -17,8 +17,8 @@ use Rattle.sil_check.specs.Verdicts.{verdict}
 use Rattle.sil_cli.specs.declared.ending.Stop.{Stop}
 use Rattle.sil_cli.specs.declared.ending.Stop.TheVariants as stop
 use Rattle.sil_cli.specs.Endings.{stop_by}
-use Rattle.sil_cli.specs.Words.{Order}
-use Rattle.sil_cli.specs.Files.{loaded}
+use Rattle.sil_cli.specs.CommandWords.{Order}
+use Rattle.sil_cli.specs.CommandFiles.{loaded}
 
 -- what a source and its copies come to: cards, or the faults of their lines
 pub data Source : Type 0 where

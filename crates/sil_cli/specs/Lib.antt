@@ -1,11 +1,11 @@
 pub mod Endings
 pub mod Noted
-pub mod Files
-pub mod Words
+pub mod CommandFiles
+pub mod CommandWords
 pub mod Orders
 pub mod Inputs
-pub mod Held
-pub mod Runs
+pub mod HeldInputs
+pub mod ImageRuns
 pub mod Report
 pub mod Answer
 pub mod Headline

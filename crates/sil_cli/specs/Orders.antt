@@ -1,6 +1,6 @@
 -- What an order says.
 use Rattle.sil_cli.specs.declared.order.Order as declared
-use Rattle.sil_cli.specs.Words.{Order}
+use Rattle.sil_cli.specs.CommandWords.{Order}
 
 -- the words of an order that was read
 abbrev pub order_by : declared.Order → Order

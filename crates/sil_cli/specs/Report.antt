@@ -7,17 +7,17 @@ use Rattle.sil_base.specs.Stores.{ChangesFile}
 use Rattle.unit_io.specs.Tapes.{Tapes}
 use Rattle.sil_model.specs.declared.end.End.{End}
 use Rattle.sil_model.specs.Machine.{machine}
-use Rattle.unit_io.specs.Runs.{Run}
+use Rattle.unit_io.specs.RunEnds.{Run}
 use Rattle.rv_emit.specs.Ways.{as_end}
 use Rattle.sil_install.specs.Installed.{IsInstalled}
 use Rattle.sil_cli.specs.declared.ending.Stop.{Stop}
 use Rattle.sil_cli.specs.declared.ending.Ending.{Ending}
 use Rattle.sil_cli.specs.declared.ending.Ending.TheVariants as ending
 use Rattle.sil_cli.specs.Endings.{line_of, IsProgramEnd}
-use Rattle.sil_cli.specs.Files.{StopCause}
+use Rattle.sil_cli.specs.CommandFiles.{StopCause}
 use Rattle.sil_cli.specs.Inputs.{on_result, job_at}
 use Rattle.sil_cli.specs.Noted.{finish_lines}
-use Rattle.sil_cli.specs.Words.{Order}
+use Rattle.sil_cli.specs.CommandWords.{Order}
 
 -- how a command ends, and the files and the tapes that it leaves before its finishes
 pub record Stage : Type 0 where

@@ -4,8 +4,8 @@ ghost use Rattle.sil_cards.specs.Cards.{AreCards};
 ghost use Rattle.sil_install.specs.Installed.{IsInstalled};
 ghost use Rattle.rv_emit.specs.Emits.{CanEmit};
 ghost use Rattle.sil_cli.specs.Endings.{is_free};
-ghost use Rattle.sil_cli.specs.Files.{IsCheckStop};
-ghost use Rattle.sil_cli.specs.Held.{inputs_by, job_by, AreRead, source_held};
+ghost use Rattle.sil_cli.specs.CommandFiles.{IsCheckStop};
+ghost use Rattle.sil_cli.specs.HeldInputs.{inputs_by, job_by, AreRead, source_held};
 ghost use Rattle.sil_cli.specs.Inputs.{parameters_by, cards_by, job_of, job_in};
 
 use crate::ending::Stop;

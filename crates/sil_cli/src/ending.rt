@@ -97,7 +97,7 @@ impl From<AllocError> for Stop {
 
 impl From<LoadStop> for Stop {
     ghost use Rattle.std.specs.Prelude.{◌≡◌};
-    ghost use Rattle.sil_cli.specs.Files.{stop_by_load};
+    ghost use Rattle.sil_cli.specs.CommandFiles.{stop_by_load};
 
     ghost from_gives = { λ c e. e ≡ stop_by_load c };
 

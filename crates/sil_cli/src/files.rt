@@ -1,7 +1,7 @@
 // Loads and saves that name the file where they end a command.
 ghost use Rattle.std.specs.Prelude.{◌≡◌, ◌≤◌, false, true, IfSome, IfOk, IfErr, MatchResult, Ok, Err, length};
 ghost use Rattle.sil_cli.specs.Endings.{is_free};
-ghost use Rattle.sil_cli.specs.Files.{loaded, NamesFile, StopCause, SavesOr};
+ghost use Rattle.sil_cli.specs.CommandFiles.{loaded, NamesFile, StopCause, SavesOr};
 
 use crate::ending::Stop;
 use sil_base::{Record, Save, Store, load_file};

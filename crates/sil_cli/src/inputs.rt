@@ -2,8 +2,8 @@
 ghost use Rattle.std.specs.Prelude.{◌≡◌, ◌≤◌, Ok, Err, false, IfSome, IfOk, IfErr, MatchResult, length};
 ghost use Rattle.sil_cards.specs.Readings.{cards_of};
 ghost use Rattle.sil_cli.specs.Endings.{is_free};
-ghost use Rattle.sil_cli.specs.Files.{StopCause};
-ghost use Rattle.sil_cli.specs.Held.{source_held, inputs_by, AreRead};
+ghost use Rattle.sil_cli.specs.CommandFiles.{StopCause};
+ghost use Rattle.sil_cli.specs.HeldInputs.{source_held, inputs_by, AreRead};
 ghost use Rattle.sil_cli.specs.Inputs.{source_by, inputs_of};
 ghost use Rattle.sil_cli.specs.Orders.{order_by};
 

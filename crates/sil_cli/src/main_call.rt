@@ -8,7 +8,7 @@ ghost use Rattle.sil_cli.specs.Endings.{stop_status};
 ghost use Rattle.sil_base.specs.Files.{Files};
 ghost use Rattle.sil_cli.specs.Headline.{Headline};
 ghost use Rattle.sil_cli.specs.Report.{has_run, finish_status};
-ghost use Rattle.sil_cli.specs.Words.{order_of};
+ghost use Rattle.sil_cli.specs.CommandWords.{order_of};
 
 use crate::command;
 use crate::ending::{Ending, Stop};

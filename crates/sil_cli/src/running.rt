@@ -1,10 +1,10 @@
 // Runs of an image's bytes.
 ghost use Rattle.std.specs.Prelude.{◌≡◌, ◌≤◌, ◌^◌, IfOk, IfErr, OnErr};
-ghost use Rattle.image_file.specs.Grammar.{IsImageFile};
+ghost use Rattle.image_file.specs.ImageGrammar.{IsImageFile};
 ghost use Rattle.image_file.specs.Image.{Image, IsImage};
 ghost use Rattle.image_file.specs.Spelling.{spelling};
 ghost use Rattle.unit_io.specs.Units.{tapes_of};
-ghost use Rattle.sil_cli.specs.Runs.{RunsSo, RunsBytes, IsRefusedRun};
+ghost use Rattle.sil_cli.specs.ImageRuns.{RunsSo, RunsBytes, IsRefusedRun};
 
 use crate::ending::Stop;
 use image_file::{Image, load_image};

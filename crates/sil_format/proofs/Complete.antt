@@ -9,8 +9,8 @@ use Rattle.std.proofs.lemmas.Option.{same_Some}
 use Rattle.std.proofs.lemmas.List.{append-nil}
 use Rattle.std.proofs.lemmas.List.Elements.{filter-append}
 use Rattle.std.proofs.lemmas.List.Folds.{list_all-append}
-use Rattle.sil_format.specs.Grammar.{is_blank, are_blanks, is_digit_or_blank, value_of, is_slash, SpellsNumber, SpellsOptionalCount, SpellsKind, SpellsItem, SpellsItems, Separates, SpellsInside, SpellsFormat}
-use Rattle.sil_format.specs.Reading.{skip_blanks, number_part, after_number, number_in, count_in, optional_count_in, number_at, character_at, decimals_at, kind_at, text_at, item_with, item_behind, item_at, next_at, read_on, items_in, closed_or_items, inside_of, opened, format_of}
+use Rattle.sil_format.specs.FormatGrammar.{is_blank, are_blanks, is_digit_or_blank, value_of, is_slash, SpellsNumber, SpellsOptionalCount, SpellsKind, SpellsItem, SpellsItems, Separates, SpellsInside, SpellsFormat}
+use Rattle.sil_format.specs.FormatReading.{skip_blanks, number_part, after_number, number_in, count_in, optional_count_in, number_at, character_at, decimals_at, kind_at, text_at, item_with, item_behind, item_at, next_at, read_on, items_in, closed_or_items, inside_of, opened, format_of}
 use Rattle.sil_format.specs.declared.format.DataKind.{DataKind}
 use Rattle.sil_format.specs.declared.format.DataKind.TheVariants.{Integer, Character, Real}
 use Rattle.sil_format.specs.declared.format.Item.{Item}

@@ -2,8 +2,8 @@
 use Rattle.std.proofs.Common.{◌≡◌, ℕ, List, Option, Some, None, Result, Ok, Err, true, refl, sym, ap, ◌∙◌}
 use Rattle.std.specs.Prelude.{IfOk, IfErr, is_some}
 use Rattle.std.proofs.lemmas.Option.{none-some}
-use Rattle.sil_format.specs.Grammar.{IsFormat, SpellsFormat}
-use Rattle.sil_format.specs.Reading.{Answers, format_of, is_format}
+use Rattle.sil_format.specs.FormatGrammar.{IsFormat, SpellsFormat}
+use Rattle.sil_format.specs.FormatReading.{Answers, format_of, is_format}
 use Rattle.sil_format.specs.declared.format.FormatStop.{FormatStop}
 use Rattle.sil_format.specs.declared.format.FormatStop.TheVariants.{Bad}
 use Rattle.sil_format.specs.declared.format.Item.{Item}

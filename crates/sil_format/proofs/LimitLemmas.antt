@@ -3,7 +3,7 @@ use Rattle.std.proofs.Common.{◌≡◌, ℕ, suc, ◌+◌, ◌≤◌, Bool, tru
 use Rattle.std.specs.Prelude.{nat_le}
 use Rattle.std.proofs.lemmas.Bool.Decides.{nat_tests}
 use Rattle.std.proofs.lemmas.List.Elements.{All-cons, All-nil}
-use Rattle.sil_format.specs.Fields.{field_of}
+use Rattle.sil_format.specs.ItemFields.{field_of}
 use Rattle.sil_format.specs.Records.{Step, before, with_field, laid, has_data, passes, records_of, KeepsLimit}
 use Rattle.sil_format.specs.Records.Step.{Put, Break, One, End}
 use Rattle.sil_format.specs.declared.fields.Field.{Field}

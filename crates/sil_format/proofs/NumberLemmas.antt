@@ -12,8 +12,8 @@ use Rattle.std.proofs.lemmas.List.Elements.{filter-append}
 use Rattle.std.proofs.lemmas.List.Folds.{list_all-append}
 use Rattle.std.proofs.lemmas.Str.Parse.{digits_value-take-le}
 use Rattle.std.proofs.Math.Seq.{drop-cons}
-use Rattle.sil_format.specs.Grammar.{is_blank, are_blanks, is_digit_or_blank, value_of}
-use Rattle.sil_format.specs.Reading.{number_part, after_number, number_in}
+use Rattle.sil_format.specs.FormatGrammar.{is_blank, are_blanks, is_digit_or_blank, value_of}
+use Rattle.sil_format.specs.FormatReading.{number_part, after_number, number_in}
 
 pub both : (a b : Bool) → (a && b) ≡ true → (a ≡ true) × (b ≡ true)
 both a b h = grind arith

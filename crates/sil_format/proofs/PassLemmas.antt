@@ -2,7 +2,7 @@
 use Rattle.std.proofs.Common.{◌≡◌, ℕ, zero, suc, ◌+◌, ◌-◌, ◌≤◌, ◌<◌, Bool, true, false, cond, List, [], ◌∷◌, ◌++◌, length, replicate, sum_by, inl, inr, ◌⊎◌, refl, sym, ap, ◌∙◌, append_assoc, arith, subst}
 use Rattle.std.specs.Prelude.{nat_le}
 use Rattle.std.proofs.lemmas.List.Sums.{sum_by-cons}
-use Rattle.sil_format.specs.Fields.{field_of}
+use Rattle.sil_format.specs.ItemFields.{field_of}
 use Rattle.sil_format.specs.Layout.{behind}
 use Rattle.sil_format.specs.Records.{Step, item_steps, steps_of, passes, data_count, has_data, before, with_field, laid, records_of}
 use Rattle.sil_format.specs.Records.Step.{Put, Break, One, End}

@@ -2,8 +2,8 @@
 use Rattle.std.proofs.Common.{◌≡◌, ℕ, zero, suc, ◌-◌, ◌<◌, Bool, List, [], ◌∷◌, ◌++◌, Option, Some, None, refl, sym, ap, ◌∙◌, append_assoc, arith}
 use Rattle.std.specs.Prelude.{option_and_then}
 use Rattle.std.specs.Option.{option_map}
-use Rattle.sil_format.specs.Grammar.{is_slash}
-use Rattle.sil_format.specs.Reading.{skip_blanks, item_at, next_at, read_on, items_in}
+use Rattle.sil_format.specs.FormatGrammar.{is_slash}
+use Rattle.sil_format.specs.FormatReading.{skip_blanks, item_at, next_at, read_on, items_in}
 use Rattle.sil_format.specs.declared.format.Item.{Item}
 
 -- these come before what is read

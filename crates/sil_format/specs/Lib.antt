@@ -1,5 +1,5 @@
-pub mod Fields
+pub mod ItemFields
 pub mod Records
 pub mod Layout
-pub mod Grammar
-pub mod Reading
+pub mod FormatGrammar
+pub mod FormatReading

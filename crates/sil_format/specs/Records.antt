@@ -1,7 +1,7 @@
 -- The records that a format lays out of values.
 use Rattle.std.specs.Prelude.{ℕ, zero, suc, ◌+◌, ◌≤◌, All, List, [], ◌∷◌, ◌++◌, length, nat_lt, nat_le, replicate, Bool, if◌then◌else◌}
 use Rattle.std.specs.List.{list_any}
-use Rattle.sil_format.specs.Fields.{field_of}
+use Rattle.sil_format.specs.ItemFields.{field_of}
 use Rattle.sil_format.specs.declared.fields.Field.{Field}
 use Rattle.sil_format.specs.declared.fields.Field.TheVariants as field
 use Rattle.sil_format.specs.declared.format.DataKind.{DataKind}

@@ -1,8 +1,8 @@
 // Blanks and numbers at the front of bytes.
 ghost use Rattle.std.specs.Prelude.{◌≡◌, ◌≤◌, ◌+◌, length, true};
 ghost use Rattle.std.specs.List.{list_all};
-ghost use Rattle.sil_format.specs.Grammar.{is_blank, are_blanks, is_digit_or_blank};
-ghost use Rattle.sil_format.specs.Reading.{skip_blanks, number_part, after_number, number_in, count_in, optional_count_in};
+ghost use Rattle.sil_format.specs.FormatGrammar.{is_blank, are_blanks, is_digit_or_blank};
+ghost use Rattle.sil_format.specs.FormatReading.{skip_blanks, number_part, after_number, number_in, count_in, optional_count_in};
 
 fn is_blank(byte: u8) -> bool
     ensures { result ≡ is_blank byte }

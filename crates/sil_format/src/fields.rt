@@ -1,7 +1,7 @@
 // What a data item writes of a value.
 ghost use Rattle.std.specs.Prelude.{◌≡◌, IfOk};
 ghost use Rattle.std.specs.Fmt.{signed_decimal};
-ghost use Rattle.sil_format.specs.Fields.{placed, field_of};
+ghost use Rattle.sil_format.specs.ItemFields.{placed, field_of};
 
 use crate::format::DataKind;
 use crate::value::Value;

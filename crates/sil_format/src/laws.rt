@@ -1,8 +1,8 @@
 // Laws of formats.
 
 ghost use Rattle.std.specs.Prelude.{◌≡◌, ℕ, ◌<◌, List, [], length, Some, true};
-ghost use Rattle.sil_format.specs.Grammar.{IsFormat, SpellsFormat};
-ghost use Rattle.sil_format.specs.Reading.{format_of, is_format};
+ghost use Rattle.sil_format.specs.FormatGrammar.{IsFormat, SpellsFormat};
+ghost use Rattle.sil_format.specs.FormatReading.{format_of, is_format};
 ghost use Rattle.sil_format.specs.Records.{has_data, laid, passes, records_of};
 ghost use Rattle.sil_format.specs.declared.format.Item.{Item};
 ghost use Rattle.sil_format.specs.declared.value.Value.{Value};

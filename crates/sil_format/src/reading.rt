@@ -2,8 +2,8 @@
 ghost use Rattle.std.specs.Prelude.{◌≡◌, ◌<◌, ◌≤◌, suc, List, length, true, Some, None, IfOk, IfErr, IfSome, MatchOption, MatchResult};
 ghost use Rattle.std.specs.List.{list_all};
 ghost use Rattle.std.specs.Option.{option_map};
-ghost use Rattle.sil_format.specs.Grammar.{SpellsFormat, is_digit_or_blank, is_slash};
-ghost use Rattle.sil_format.specs.Reading.{Answers, number_at, character_at, decimals_at, kind_at, text_at, item_with, item_at, next_at, items_in, inside_of, opened, format_of, is_format};
+ghost use Rattle.sil_format.specs.FormatGrammar.{SpellsFormat, is_digit_or_blank, is_slash};
+ghost use Rattle.sil_format.specs.FormatReading.{Answers, number_at, character_at, decimals_at, kind_at, text_at, item_with, item_at, next_at, items_in, inside_of, opened, format_of, is_format};
 ghost use Rattle.sil_format.specs.declared.format.FormatStop.TheVariants.{Bad};
 ghost use Rattle.sil_format.specs.declared.format.Item.{Item};
 
@@ -210,7 +210,7 @@ pub fn read_format(alloc: Global, bytes: &[u8]) -> Result<Format, FormatStop>
 }
 
 /// Whether bytes spell a format.
-#[tactic(auto, unfolding(crate::specs::Reading::is_format))]
+#[tactic(auto, unfolding(crate::specs::FormatReading::is_format))]
 pub fn is_format(alloc: Global, bytes: &[u8]) -> Result<bool, AllocError>
     ensures { IfOk result (λ is. is ≡ is_format bytes.now) }
 {

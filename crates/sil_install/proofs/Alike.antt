@@ -21,9 +21,9 @@ use Rattle.image_file.specs.Image.{Image}
 use Rattle.rv_emit.specs.Parts.{IsImageOf}
 use Rattle.rv_emulate.specs.declared.end.CpuEnd.{CpuEnd}
 use Rattle.rv_emulate.specs.declared.end.CpuEnd.TheVariants.{Fetch}
-use Rattle.rv_emulate.specs.States.{State, Outcome, On, Ended, steps_left, start}
-use Rattle.rv_emulate.specs.Runs.{run, met, met_now, met_with, listed, entry_at, emulation, run_under, end_of, tapes_of, budget}
-use Rattle.rv_emulate.specs.Ways.{Calls}
+use Rattle.rv_emulate.specs.EmulatorStates.{State, Outcome, On, Ended, steps_left, start}
+use Rattle.rv_emulate.specs.EmulatorRuns.{run, met, met_now, met_with, listed, entry_at, emulation, run_under, end_of, tapes_of, budget}
+use Rattle.rv_emulate.specs.AlongRuns.{Calls}
 use Rattle.rv_emulate.proofs.RunLaws.{run-add, run-end, met-add, met-end, met_way, along_at, later_at}
 use Rattle.rv_emit.specs.Represents.{Represents}
 use Rattle.rv_emit.specs.Ways.{place, as_end, IsBetween, Permits, Comes, ComesTo, EndsAs, Makes, CarriesOut}

@@ -12,7 +12,7 @@ use Rattle.sil_model.specs.Valid.{IsValid, IsSteady}
 use Rattle.image_file.specs.Image.{Image}
 use Rattle.sil_model.specs.CellWords.{kind_of}
 use Rattle.rv_emit.specs.Parts.{IsImageOf}
-use Rattle.rv_emulate.specs.States.{cell_total}
+use Rattle.rv_emulate.specs.EmulatorStates.{cell_total}
 
 pub less : (left slot more b : ℕ) → suc left * slot + 2000 ≤ b → suc more ≤ slot → left * slot + 2000 ≤ b - suc more
 less left slot more b h le = omega arith

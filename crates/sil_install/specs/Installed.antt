@@ -6,7 +6,7 @@ use Rattle.layout_params.specs.Parameters.{Parameters}
 use Rattle.sil_model.specs.declared.end.End.{End}
 use Rattle.sil_model.specs.declared.program.Program.{Program}
 use Rattle.sil_model.specs.declared.program.Statement.{Statement}
-use Rattle.unit_io.specs.Runs.{Run}
+use Rattle.unit_io.specs.RunEnds.{Run}
 use Rattle.sil_model.specs.States as machine
 use Rattle.sil_model.specs.States.{Goes}
 use Rattle.sil_model.specs.Start.{first_state}
@@ -18,9 +18,9 @@ use Rattle.image_file.specs.Spelling.{spelling}
 use Rattle.rv_emit.specs.Parts.{IsImageOf}
 use Rattle.rv_emulate.specs.declared.end.CpuEnd.{CpuEnd}
 use Rattle.rv_emulate.specs.declared.end.CpuEnd.TheVariants.{Fetch}
-use Rattle.rv_emulate.specs.States.{State, Outcome, On, Ended, start, steps_left}
-use Rattle.rv_emulate.specs.Runs.{run, met, entry_at, emulation, budget}
-use Rattle.rv_emulate.specs.Ways.{Calls}
+use Rattle.rv_emulate.specs.EmulatorStates.{State, Outcome, On, Ended, start, steps_left}
+use Rattle.rv_emulate.specs.EmulatorRuns.{run, met, entry_at, emulation, budget}
+use Rattle.rv_emulate.specs.AlongRuns.{Calls}
 use Rattle.rv_emit.specs.Represents.{Represents}
 use Rattle.rv_emit.specs.Ways.{place, as_end}
 

@@ -9,7 +9,7 @@ use Rattle.sil_model.specs.Fits.{FitsRow, bounds_of}
 use Rattle.sil_model.specs.Sites.{site_of}
 use Rattle.sil_model.specs.WellFormed.{IsWellFormed}
 use Rattle.sil_model.proofs.Keeps.{all_at}
-use Rattle.sil_machine.specs.Sites.{IsOnSite}
+use Rattle.sil_machine.specs.MachineSites.{IsOnSite}
 
 pub on_site : (program : Program) (parameters : Parameters) (k : ℕ) (statement : Statement) → IsWellFormed program parameters.settings → slice_get program.statements k ≡ Some statement → IsOnSite (site_of program parameters k statement)
 on_site program parameters k statement h is = record {

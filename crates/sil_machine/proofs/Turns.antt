@@ -12,7 +12,7 @@ use Rattle.sil_model.specs.Machine.{make_step, step, run, after_step, ended, mee
 use Rattle.sil_model.specs.States.{State, Step, Goes, Ends, is_told}
 use Rattle.sil_machine.specs.Outcomes.{RunOutcome, outcome_of, end_at, IsAs}
 use Rattle.sil_machine.specs.Positions.{Makes, ended_with_memory, left}
-use Rattle.unit_io.specs.Runs.{Run}
+use Rattle.unit_io.specs.RunEnds.{Run}
 
 abbrev pub ended_so : Option End → Tapes → RunOutcome
 ended_so end tapes = record { end = end; tapes = tapes }

@@ -1,4 +1,4 @@
-pub mod Parts
-pub mod Sites
+pub mod MachineParts
+pub mod MachineSites
 pub mod Positions
 pub mod Outcomes

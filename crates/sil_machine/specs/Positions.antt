@@ -9,7 +9,7 @@ use Rattle.sil_model.specs.declared.program.Program.{Program}
 use Rattle.sil_model.specs.States.{State, Step, Goes, Ends, is_told}
 use Rattle.sil_model.specs.Machine.{step, with_statement}
 use Rattle.sil_model.specs.Start.{first_state}
-use Rattle.sil_machine.specs.Parts.{state_of}
+use Rattle.sil_machine.specs.MachineParts.{state_of}
 use Rattle.sil_machine.specs.declared.state.Position.{Position}
 use Rattle.sil_machine.specs.declared.machine.Step.{Step as Answer}
 use Rattle.sil_machine.specs.declared.machine.Step.TheVariants.{Next, Stop}

@@ -4,7 +4,7 @@ ghost use Rattle.unit_io.specs.Tapes.{Tapes};
 ghost use Rattle.unit_io.specs.Units.{RoseAt, tapes_of};
 ghost use Rattle.sil_model.specs.Prints.{writes_records};
 ghost use Rattle.sil_model.specs.Table.{calls_unit, clause};
-ghost use Rattle.sil_machine.specs.Parts.{Meets, left_by, state_of};
+ghost use Rattle.sil_machine.specs.MachineParts.{Meets, left_by, state_of};
 
 use crate::parts::{Parts, Stop};
 use crate::site::Site;

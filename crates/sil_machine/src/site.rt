@@ -18,7 +18,7 @@ pub struct Site<'p> {
 
 impl<'p> Model for Site<'p> {
     ghost use Rattle.sil_model.specs.Sites as sites;
-    ghost use Rattle.sil_machine.specs.Sites.{seen_site, IsOnSite};
+    ghost use Rattle.sil_machine.specs.MachineSites.{seen_site, IsOnSite};
 
     ghost Value = { sites.Site };
 

@@ -7,7 +7,7 @@ ghost use Rattle.sil_model.specs.Table.{calls_unit};
 ghost use Rattle.sil_model.specs.WellFormed.{IsWellFormed};
 ghost use Rattle.sil_machine.specs.Positions.{Makes, counted, ended_with_memory, left, state_at};
 ghost use Rattle.sil_machine.specs.Outcomes.{IsAs, end_at, outcome_of};
-ghost use Rattle.sil_machine.specs.Parts.{answered, had_memory};
+ghost use Rattle.sil_machine.specs.MachineParts.{answered, had_memory};
 
 use crate::dispatch::perform;
 use crate::parts::{Parts, Stop};

@@ -1,3 +1,3 @@
-pub mod Places
-pub mod Rows
+pub mod OperandPlaces
+pub mod MacroRows
 pub mod Macros

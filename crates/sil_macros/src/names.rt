@@ -1,6 +1,6 @@
 //! The names of the macros.
 ghost use Rattle.std.specs.Prelude.{◌≡◌};
-ghost use Rattle.sil_macros.specs.Rows.{row};
+ghost use Rattle.sil_macros.specs.MacroRows.{row};
 
 /// A macro, in the order of the names in ASCII.
 #[derive(Clone, Copy, PartialEq, Eq, Debug)]

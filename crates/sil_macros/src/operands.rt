@@ -1,6 +1,6 @@
 //! What operands each macro takes.
 ghost use Rattle.std.specs.Prelude.{◌≡◌};
-ghost use Rattle.sil_macros.specs.Rows.{row};
+ghost use Rattle.sil_macros.specs.MacroRows.{row};
 
 use crate::names::Macro;
 use crate::shapes::{Kind, Place, Shape};

@@ -3,10 +3,10 @@ use Rattle.std.proofs.Common.{◌≡◌, ℕ, suc, ◌+◌, List, [], ◌++◌, 
 use Rattle.std.specs.Prelude.{slice_get}
 use Rattle.sil_micro.specs.Codes.{MicroCode}
 use Rattle.sil_micro.specs.Laws.{Leads, Follows}
-use Rattle.sil_micro.specs.Runs.{Outcome, At, and_on, met_after, met_by, run, met, step}
-use Rattle.sil_micro.specs.States.{Setting, Micro}
-use Rattle.sil_micro.specs.Ways.{Way, Came, Returned}
-use Rattle.sil_micro.specs.Ways as ways
+use Rattle.sil_micro.specs.MicroRuns.{Outcome, At, and_on, met_after, met_by, run, met, step}
+use Rattle.sil_micro.specs.MicroStates.{Setting, Micro}
+use Rattle.sil_micro.specs.MicroWays.{Way, Came, Returned}
+use Rattle.sil_micro.specs.MicroWays as ways
 
 module _ (g : Setting) (c : MicroCode) where
   no_operation : (i place : ℕ) (u : Micro) → run g c (0 + i) place u ≡ run g c i place u

@@ -4,8 +4,8 @@ use Rattle.sil_model.specs.States.{Step}
 use Rattle.sil_micro.specs.declared.op.Op.{Op}
 use Rattle.sil_micro.specs.Expands.{Makes, Meets}
 use Rattle.sil_micro.specs.Pieces.{joined, is_part}
-use Rattle.sil_micro.specs.States.{Setting, Micro}
-use Rattle.sil_micro.specs.Ways.{way}
+use Rattle.sil_micro.specs.MicroStates.{Setting, Micro}
+use Rattle.sil_micro.specs.MicroWays.{way}
 use Rattle.sil_micro.proofs.Parts.{alike}
 
 pub by_option : {A : Type 0} {P : Type 0} (o : Option A) → (o ≡ None → P) → ((x : A) → o ≡ Some x → P) → P

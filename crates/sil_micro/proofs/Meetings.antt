@@ -7,9 +7,9 @@ use Rattle.sil_micro.specs.declared.op.Target.TheVariants.{Op as Place, Statemen
 use Rattle.sil_micro.specs.Laws.{met_within, way_met, MeetsOnce}
 use Rattle.sil_micro.specs.Operations.{Effect, On, To, ToReturn, Over, Stuck, begin_if, perform}
 use Rattle.sil_micro.specs.Pieces.{is_part, is_no_begin, begins_once}
-use Rattle.sil_micro.specs.Runs.{met_by}
-use Rattle.sil_micro.specs.States.{Setting, Micro}
-use Rattle.sil_micro.specs.Ways.{effect_of}
+use Rattle.sil_micro.specs.MicroRuns.{met_by}
+use Rattle.sil_micro.specs.MicroStates.{Setting, Micro}
+use Rattle.sil_micro.specs.MicroWays.{effect_of}
 use Rattle.sil_micro.proofs.Moved.{Stays, performs, op_at, op_inside}
 
 no_begin : (piece : List Op) (i : ℕ) (op : Op) → begins_once piece ≡ true → 0 < i → slice_get piece i ≡ Some op → is_no_begin op ≡ true

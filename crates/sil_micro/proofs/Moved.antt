@@ -18,10 +18,10 @@ use Rattle.sil_micro.specs.declared.op.Op.TheVariants.{Const, Copy, Arith, Jump,
 use Rattle.sil_micro.specs.Forms.{is_op, all_ops}
 use Rattle.sil_micro.specs.Operations.{Effect, On, To, ToReturn, Over, Stuck, load, load_char, load_table, load_word, store, store_state, store_scratch, store_tables, store_word, state_word, set_state_word, scratch_word, set_scratch, jump_if, entered_statement, jump_entry, begin_if, unit_fault, end_by, call_on, call_if, perform}
 use Rattle.sil_micro.specs.Pieces.{placed_target, placed_op, target_within, op_within, fits_part, is_part}
-use Rattle.sil_micro.specs.States.{Setting, Micro, held}
+use Rattle.sil_micro.specs.MicroStates.{Setting, Micro, held}
 use Rattle.sil_micro.specs.TableWords.{table_word, set_table_word}
 use Rattle.sil_micro.specs.UnitCalls.{can_call}
-use Rattle.sil_micro.specs.Words.{holds, low_byte, unsigned}
+use Rattle.sil_micro.specs.MicroWords.{holds, low_byte, unsigned}
 
 pub and_first : (a b : Bool) → (a && b) ≡ true → a ≡ true
 and_first true b h = refl

@@ -12,8 +12,8 @@ use Rattle.sil_micro.specs.Codes.{MicroCode, appended}
 use Rattle.sil_micro.specs.Forms.{is_op, all_ops}
 use Rattle.sil_micro.specs.Operations.{Effect, On, To, ToReturn, Over, Stuck, perform, weight}
 use Rattle.sil_micro.specs.Pieces.{placed, placed_op, placed_target, joined, weights, target_within, op_within, fits_part, is_part, names_within, is_no_begin, begins_once}
-use Rattle.sil_micro.specs.States.{Setting, Micro}
-use Rattle.sil_micro.specs.Ways.{effect_of, within, way}
+use Rattle.sil_micro.specs.MicroStates.{Setting, Micro}
+use Rattle.sil_micro.specs.MicroWays.{effect_of, within, way}
 use Rattle.sil_micro.proofs.Moved.{moved, Stays, performs, op_inside, and_first, and_second}
 
 part_op : (front : List Op) (b : ℕ) (part : List Op) (i : ℕ) → slice_get (front ++ placed b part) (length front + i) ≡ option_map (placed_op b) (slice_get part i)

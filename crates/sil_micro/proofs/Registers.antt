@@ -1,7 +1,7 @@
 -- What registers hold.
 use Rattle.std.proofs.Common.{◌≡◌, ℕ, zero, suc, ◌<◌, refl, arith}
 use Rattle.std.specs.Prelude.{ℤ, ◌==◌, if◌then◌else◌}
-use Rattle.sil_micro.specs.States.{Registers, held, put}
+use Rattle.sil_micro.specs.MicroStates.{Registers, held, put}
 
 -- what holds of each number below 16
 below_16 : (P : ℕ → Type 0) → P 0 → P 1 → P 2 → P 3 → P 4 → P 5 → P 6 → P 7 → P 8 → P 9 → P 10 → P 11 → P 12 → P 13 → P 14 → P 15 → (n : ℕ) → n < 16 → P n

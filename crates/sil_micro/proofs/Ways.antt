@@ -9,9 +9,9 @@ use Rattle.sil_micro.specs.Codes.{MicroCode}
 use Rattle.sil_micro.specs.Laws.{StandsAt, Leads, Follows, met_within, way_met}
 use Rattle.sil_micro.specs.Operations.{Effect, On, To, ToReturn, Over, Stuck, perform}
 use Rattle.sil_micro.specs.Pieces.{placed_op}
-use Rattle.sil_micro.specs.Runs.{At, at_op, at_statement, follow, met_by, step}
-use Rattle.sil_micro.specs.States.{Setting, Micro}
-use Rattle.sil_micro.specs.Ways.{effect_of, within, way}
+use Rattle.sil_micro.specs.MicroRuns.{At, at_op, at_statement, follow, met_by, step}
+use Rattle.sil_micro.specs.MicroStates.{Setting, Micro}
+use Rattle.sil_micro.specs.MicroWays.{effect_of, within, way}
 use Rattle.sil_micro.proofs.Moved.{moved, Stays, performs, op_inside}
 use Rattle.sil_micro.proofs.Leading.{here, alone, before}
 

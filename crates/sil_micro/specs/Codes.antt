@@ -9,7 +9,7 @@ use Rattle.sil_micro.specs.declared.op.Target.{Target}
 use Rattle.sil_micro.specs.declared.op.Target.TheVariants.{Op as Place, Statement}
 use Rattle.sil_micro.specs.Forms.{is_op, all_ops}
 use Rattle.sil_micro.specs.Pieces.{placed, names_within, weights}
-use Rattle.sil_micro.specs.States.{Setting}
+use Rattle.sil_micro.specs.MicroStates.{Setting}
 
 -- the operations; for each statement the places of its first operation and of its return part, where it has them; the number of static cells; and the texts of the formats
 pub record MicroCode : Type 0 where

@@ -19,8 +19,8 @@ use Rattle.sil_micro.specs.declared.op.Op.TheVariants.{Begin}
 use Rattle.sil_micro.specs.Codes.{MicroCode, appended, begun}
 use Rattle.sil_micro.specs.Forms.{all_ops}
 use Rattle.sil_micro.specs.Pieces.{is_part, names_within, begins_once, weights}
-use Rattle.sil_micro.specs.States.{Setting, Micro}
-use Rattle.sil_micro.specs.Ways.{Way, Came, Ended, way}
+use Rattle.sil_micro.specs.MicroStates.{Setting, Micro}
+use Rattle.sil_micro.specs.MicroWays.{Way, Came, Ended, way}
 
 -- a state at a statement
 abbrev pub at : ℕ → State → State

@@ -6,10 +6,10 @@ use Rattle.sil_micro.specs.declared.op.Target.TheVariants.{Op as Place}
 use Rattle.sil_micro.specs.Codes.{MicroCode, place_of}
 use Rattle.sil_micro.specs.Operations.{Effect, On, To}
 use Rattle.sil_micro.specs.Pieces.{placed_op, joined, is_part, begins_once}
-use Rattle.sil_micro.specs.Runs as runs
-use Rattle.sil_micro.specs.Runs.{Outcome, at_statement, at_return, return_place, and_on, met_by, met_after}
-use Rattle.sil_micro.specs.States.{Setting, Registers, Micro, held, put}
-use Rattle.sil_micro.specs.Ways.{Way, Came, Returned, Ended, IsStuck, Unfinished, effect_at, way}
+use Rattle.sil_micro.specs.MicroRuns as runs
+use Rattle.sil_micro.specs.MicroRuns.{Outcome, at_statement, at_return, return_place, and_on, met_by, met_after}
+use Rattle.sil_micro.specs.MicroStates.{Setting, Registers, Micro, held, put}
+use Rattle.sil_micro.specs.MicroWays.{Way, Came, Returned, Ended, IsStuck, Unfinished, effect_at, way}
 
 -- what is put into a register is held there, and the others hold what they held
 abbrev pub LawOfRegisters : Type 0

@@ -1,12 +1,12 @@
-pub mod Words
+pub mod MicroWords
 pub mod TableWords
-pub mod States
+pub mod MicroStates
 pub mod UnitCalls
 pub mod Operations
 pub mod Forms
 pub mod Pieces
 pub mod Codes
-pub mod Runs
-pub mod Ways
+pub mod MicroRuns
+pub mod MicroWays
 pub mod Laws
 pub mod Expands

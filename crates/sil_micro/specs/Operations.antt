@@ -20,8 +20,8 @@ use Rattle.sil_micro.specs.declared.op.Target.{Target}
 use Rattle.sil_micro.specs.declared.op.Target.TheVariants as targets
 use Rattle.sil_micro.specs.declared.op.Op.{Op}
 use Rattle.sil_micro.specs.declared.op.Op.TheVariants.{Const, Copy, Arith, Jump, JumpIf, JumpEntry, JumpReturn, LoadField, StoreField, StoreCell, LoadChar, StoreChar, LoadWord, StoreWord, UnitCall, Begin, End as EndBy}
-use Rattle.sil_micro.specs.States.{Setting, Micro, held, put}
-use Rattle.sil_micro.specs.Words.{computed, holds, same_integer, low_byte, unsigned}
+use Rattle.sil_micro.specs.MicroStates.{Setting, Micro, held, put}
+use Rattle.sil_micro.specs.MicroWords.{computed, holds, same_integer, low_byte, unsigned}
 use Rattle.sil_micro.specs.TableWords.{table_word, set_table_word}
 use Rattle.sil_micro.specs.UnitCalls.{can_call, absent}
 

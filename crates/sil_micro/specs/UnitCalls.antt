@@ -8,8 +8,8 @@ use Rattle.sil_micro.specs.declared.op.Text.{Text}
 use Rattle.sil_micro.specs.declared.op.Text.TheVariants as text
 use Rattle.sil_micro.specs.declared.op.Values.{Values}
 use Rattle.sil_micro.specs.declared.op.Values.TheVariants as values
-use Rattle.sil_micro.specs.States.{Setting, Micro, held}
-use Rattle.sil_micro.specs.Words.{unsigned}
+use Rattle.sil_micro.specs.MicroStates.{Setting, Micro, held}
+use Rattle.sil_micro.specs.MicroWords.{unsigned}
 
 -- so many characters from an address on, all in cells of characters
 unfoldable pub chars_from : Memory → ℤ → ℕ → Option (List ℕ)

@@ -13,7 +13,7 @@ use Rattle.unit_io.specs.Tapes.{Tapes}
 use Rattle.sil_macros.specs.declared.names.Macro.{Macro}
 use Rattle.sil_macros.specs.declared.shapes.Place.{Place as Slot}
 use Rattle.sil_macros.specs.Macros.{macros, number_of, with_number}
-use Rattle.sil_macros.specs.Rows.{row}
+use Rattle.sil_macros.specs.MacroRows.{row}
 use Rattle.sil_model.specs.declared.program.Arg.{Arg}
 use Rattle.sil_model.specs.declared.program.Arg.TheVariants.{Places, Gotos}
 use Rattle.sil_model.specs.declared.program.Flow.TheVariants.{Next, To, Exit, Trap}

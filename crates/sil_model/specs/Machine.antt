@@ -10,7 +10,7 @@ use Rattle.sil_model.specs.declared.program.Statement.{Statement}
 use Rattle.sil_model.specs.Effects.{Effect, On, Undefined, UnitFault, Untold}
 use Rattle.sil_model.specs.Table.{clause}
 use Rattle.sil_model.specs.Sites.{site_of}
-use Rattle.unit_io.specs.Runs.{Run}
+use Rattle.unit_io.specs.RunEnds.{Run}
 use Rattle.sil_model.specs.States.{State, Step, Goes, Ends}
 use Rattle.sil_model.specs.Start.{first_state}
 

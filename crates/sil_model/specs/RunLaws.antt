@@ -4,7 +4,7 @@ use Rattle.layout_params.specs.Parameters.{Parameters}
 use Rattle.sil_model.specs.declared.end.End.{End}
 use Rattle.sil_model.specs.declared.program.Program.{Program}
 use Rattle.sil_model.specs.Machine.{after, after_step, ended, run}
-use Rattle.unit_io.specs.Runs.{Run}
+use Rattle.unit_io.specs.RunEnds.{Run}
 use Rattle.sil_model.specs.States.{State}
 
 -- both end alike, with the same tapes

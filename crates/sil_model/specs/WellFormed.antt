@@ -3,7 +3,7 @@ use Rattle.std.specs.Prelude.{◌≡◌, ℕ, ◌^◌, ◌<◌, ◌≤◌, lengt
 use Rattle.std.specs.Int.{w64}
 use Rattle.layout_params.specs.Parameters.{Settings, AreLegalSettings}
 use Rattle.layout_params.specs.Sizes.{value_limit}
-use Rattle.sil_format.specs.Grammar.{IsFormat}
+use Rattle.sil_format.specs.FormatGrammar.{IsFormat}
 use Rattle.sil_model.specs.declared.program.Program.{Program}
 use Rattle.sil_model.specs.declared.table.Action.{Action}
 use Rattle.sil_model.specs.declared.table.Action.TheVariants.{Goto}

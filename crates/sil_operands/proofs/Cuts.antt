@@ -8,7 +8,7 @@ use Rattle.std.proofs.lemmas.List.{length-take-le, get_or-take, take_rest, take_
 use Rattle.std.proofs.lemmas.List.Elements.{All-from_get_or, All-head, All-tail}
 use Rattle.std.proofs.lemmas.List.Splits.{slice_split_none, slice_split_at}
 use Rattle.std.proofs.lemmas.List.Sums.{fails_before_first, passes_at_first, split_at_first}
-use Rattle.sil_operands.specs.Reading.{parts_at, signed_parts, is_sign, operand_parts, separates, place_after}
+use Rattle.sil_operands.specs.OperandReading.{parts_at, signed_parts, is_sign, operand_parts, separates, place_after}
 use Rattle.sil_operands.specs.declared.cutting.Place.{Place}
 use Rattle.sil_operands.specs.declared.cutting.Place.TheVariants.{Outside}
 

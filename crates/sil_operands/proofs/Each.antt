@@ -3,8 +3,8 @@ use Rattle.std.proofs.Common.{◌≡◌, ℕ, suc, Bool, true, false, cond, ◌&
 use Rattle.std.specs.Prelude.{option_and_then}
 use Rattle.std.specs.Option.{option_map}
 use Rattle.std.specs.List.{AllZip, list_all, join_with_byte}
-use Rattle.sil_operands.specs.Grammar.{SpellsSeparated}
-use Rattle.sil_operands.specs.Reading.{each}
+use Rattle.sil_operands.specs.OperandGrammar.{SpellsSeparated}
+use Rattle.sil_operands.specs.OperandReading.{each}
 
 -- these come before what is read
 abbrev pub after : {A : Type 0} → List A → Option (List A) → Option (List A)

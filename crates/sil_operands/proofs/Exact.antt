@@ -2,9 +2,9 @@
 use Rattle.std.proofs.Common.{◌≡◌, ℕ, List, Result, Ok, Err, sym, ◌∙◌}
 use Rattle.std.specs.Prelude.{IfOk, IfErr, IsTrue}
 use Rattle.std.proofs.lemmas.Option.{none-some}
-use Rattle.sil_operands.specs.Grammar.{SpellsOperands}
+use Rattle.sil_operands.specs.OperandGrammar.{SpellsOperands}
 use Rattle.sil_operands.specs.Limits.{card_limits, are_within_limits}
-use Rattle.sil_operands.specs.Reading.{Answers, operands_of}
+use Rattle.sil_operands.specs.OperandReading.{Answers, operands_of}
 use Rattle.sil_operands.specs.declared.operand.Operand.{Operand}
 use Rattle.sil_operands.specs.declared.operand.OperandFault.{OperandFault}
 use Rattle.sil_operands.specs.declared.operand.OperandFault.TheVariants.{Bad}

@@ -5,7 +5,7 @@ use Rattle.std.specs.Option.{option_map}
 use Rattle.std.proofs.lemmas.Bool.Decides.{nat_tests}
 use Rattle.std.proofs.lemmas.List.Splits.{length-slice_split}
 use Rattle.sil_operands.specs.Limits.{card_limits}
-use Rattle.sil_operands.specs.Reading.{each, parts_at, item_in, items_in, before_bracket, list_in}
+use Rattle.sil_operands.specs.OperandReading.{each, parts_at, item_in, items_in, before_bracket, list_in}
 
 -- ---- the number of items
 

@@ -3,7 +3,7 @@ use Rattle.std.proofs.Common.{◌≡◌, ◌≢◌, ℕ, ◌+◌, ◌<◌, true,
 use Rattle.std.specs.Prelude.{◌==◌}
 use Rattle.std.proofs.lemmas.Bool.Decides.{nat_tests}
 use Rattle.std.proofs.lemmas.List.{at_drop_more}
-use Rattle.sil_operands.specs.Reading.{text_in}
+use Rattle.sil_operands.specs.OperandReading.{text_in}
 use Rattle.sil_operands.proofs.Each.{after, after-push}
 
 module _ (bytes : List ℕ) (i : ℕ) (within : i < length bytes) where

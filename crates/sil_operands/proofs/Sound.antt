@@ -8,9 +8,9 @@ use Rattle.std.proofs.lemmas.Bool.Decides.{nat_tests}
 use Rattle.std.proofs.lemmas.Option.{same_Some, none-some, cond_some}
 use Rattle.std.proofs.lemmas.List.Splits.{join_with_byte-slice_split}
 use Rattle.sil_base.specs.Names.{is_name, is_number, value_of}
-use Rattle.sil_operands.specs.Grammar.{SpellsSeparated, SpellsFactor, SpellsTerm, sign_of, SpellsMoreTerms, SpellsFirstSign, SpellsExpr, SpellsItem, quoted, SpellsOperand, field_text, SpellsOperands}
+use Rattle.sil_operands.specs.OperandGrammar.{SpellsSeparated, SpellsFactor, SpellsTerm, sign_of, SpellsMoreTerms, SpellsFirstSign, SpellsExpr, SpellsItem, quoted, SpellsOperand, field_text, SpellsOperands}
 use Rattle.sil_operands.specs.Limits.{Limits, factor_keeps, term_keeps, item_keeps, operand_keeps}
-use Rattle.sil_operands.specs.Reading.{parts_at, each, factor_in, term_in, is_sign, signed_parts, terms_of, expr_in, item_in, items_in, before_bracket, list_in, text_in, operand_in, operand_parts, separates, place_after, operands_in}
+use Rattle.sil_operands.specs.OperandReading.{parts_at, each, factor_in, term_in, is_sign, signed_parts, terms_of, expr_in, item_in, items_in, before_bracket, list_in, text_in, operand_in, operand_parts, separates, place_after, operands_in}
 use Rattle.sil_operands.specs.declared.cutting.Place.{Place}
 use Rattle.sil_operands.specs.declared.cutting.Place.TheVariants.{Outside, Within, Quoted}
 use Rattle.sil_operands.specs.declared.expr.Factor.{Factor}

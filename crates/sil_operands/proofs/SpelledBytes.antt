@@ -6,7 +6,7 @@ use Rattle.std.specs.Prelude.{nat_le}
 use Rattle.std.proofs.lemmas.Bool.Decides.{nat_tests}
 use Rattle.std.proofs.lemmas.List.Elements.{All-nil, All-cons, All-append, All-weaker}
 use Rattle.sil_base.specs.Names.{is_name, is_number}
-use Rattle.sil_operands.specs.Grammar.{SpellsSeparated, SpellsFactor, SpellsTerm, sign_of, SpellsMoreTerms, SpellsFirstSign, SpellsExpr, SpellsItem}
+use Rattle.sil_operands.specs.OperandGrammar.{SpellsSeparated, SpellsFactor, SpellsTerm, sign_of, SpellsMoreTerms, SpellsFirstSign, SpellsExpr, SpellsItem}
 use Rattle.sil_operands.specs.declared.expr.Factor.{Factor}
 use Rattle.sil_operands.specs.declared.expr.Factor.TheVariants.{Name, Number}
 use Rattle.sil_operands.specs.declared.expr.Term.{Term}

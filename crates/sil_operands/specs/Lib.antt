@@ -1,4 +1,4 @@
-pub mod Grammar
+pub mod OperandGrammar
 pub mod Limits
-pub mod Reading
+pub mod OperandReading
 pub mod Simple

@@ -1,6 +1,6 @@
 // Cuts of bytes into parts.
 ghost use Rattle.std.specs.Prelude.{◌≡◌, ◌+◌, ◌<◌, ◌==◌, [], ◌∷◌, Bool, length, take, drop, MatchOption, IfSome, position};
-ghost use Rattle.sil_operands.specs.Reading.{parts_at, signed_parts, is_sign, operand_parts, place_after, separates};
+ghost use Rattle.sil_operands.specs.OperandReading.{parts_at, signed_parts, is_sign, operand_parts, place_after, separates};
 ghost use Rattle.sil_operands.specs.declared.cutting.Place.TheVariants.{Outside};
 
 use sil_base::index_of_byte;

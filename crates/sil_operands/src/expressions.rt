@@ -1,7 +1,7 @@
 // Expressions and lists of them.
 ghost use Rattle.std.specs.Prelude.{◌==◌, count_by, ◌≡◌};
 ghost use Rattle.sil_operands.specs.Limits.{card_limits};
-ghost use Rattle.sil_operands.specs.Reading.{Answers, each, parts_at, signed_parts, term_in, expr_in, item_in, items_in};
+ghost use Rattle.sil_operands.specs.OperandReading.{Answers, each, parts_at, signed_parts, term_in, expr_in, item_in, items_in};
 
 use crate::cutting::{cut, cut_sign};
 use crate::expr::Expr;

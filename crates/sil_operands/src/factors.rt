@@ -1,6 +1,6 @@
 // Factors and terms.
 ghost use Rattle.sil_operands.specs.Limits.{card_limits};
-ghost use Rattle.sil_operands.specs.Reading.{Answers, each, parts_at, factor_in, term_in};
+ghost use Rattle.sil_operands.specs.OperandReading.{Answers, each, parts_at, factor_in, term_in};
 
 use crate::cutting::cut;
 use crate::expr::{Factor, Term};

@@ -1,9 +1,9 @@
 // Laws of operand fields.
 
 ghost use Rattle.std.specs.Prelude.{◌≡◌, ℕ, List, Some, IsTrue};
-ghost use Rattle.sil_operands.specs.Grammar.{SpellsOperands};
+ghost use Rattle.sil_operands.specs.OperandGrammar.{SpellsOperands};
 ghost use Rattle.sil_operands.specs.Limits.{are_within_limits};
-ghost use Rattle.sil_operands.specs.Reading.{operands_of};
+ghost use Rattle.sil_operands.specs.OperandReading.{operands_of};
 ghost use Rattle.sil_operands.specs.declared.operand.Operand.{Operand};
 
 /// A field spells at most one list of operands, whatever the limits.

@@ -1,8 +1,8 @@
 // The operands of a field.
 ghost use Rattle.std.specs.Prelude.{◌≡◌, List, IfOk, IfErr, IsTrue};
-ghost use Rattle.sil_operands.specs.Grammar.{field_text, SpellsOperands};
+ghost use Rattle.sil_operands.specs.OperandGrammar.{field_text, SpellsOperands};
 ghost use Rattle.sil_operands.specs.Limits.{card_limits, are_within_limits};
-ghost use Rattle.sil_operands.specs.Reading.{Answers, each, operand_in, operand_parts, operands_of, list_in};
+ghost use Rattle.sil_operands.specs.OperandReading.{Answers, each, operand_in, operand_parts, operands_of, list_in};
 ghost use Rattle.sil_operands.specs.declared.cutting.Place.TheVariants.{Outside};
 ghost use Rattle.sil_operands.specs.declared.operand.Operand.{Operand};
 

@@ -1,6 +1,6 @@
 // Texts in quotes.
 ghost use Rattle.std.specs.Prelude.{false};
-ghost use Rattle.sil_operands.specs.Reading.{Answers, text_in};
+ghost use Rattle.sil_operands.specs.OperandReading.{Answers, text_in};
 
 use crate::operand::OperandFault;
 use sil_base::Record;

@@ -1,4 +1,4 @@
 pub mod Shapes
 pub mod Locations
-pub mod Rules
-pub mod Held
+pub mod ShapeRules
+pub mod HeldSources

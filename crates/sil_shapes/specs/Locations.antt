@@ -1,7 +1,7 @@
 -- Entries of statements, and numbers within a limit.
 use Rattle.std.specs.Prelude.{ℕ, ◌+◌, ◌-◌, ◌/◌, ◌%◌, nat_le, nat_lt, List, [], ◌∷◌, Option, Some, None, ◌&&◌, ◌==◌, if◌then◌else◌, ℤ, pos, negsuc}
 use Rattle.sil_base.specs.declared.places.TheConstants.{FIRST_ENTRY}
-use Rattle.sil_macros.specs.Rows.{row}
+use Rattle.sil_macros.specs.MacroRows.{row}
 use Rattle.sil_symbols.specs.declared.stmt.Stmt.{Stmt}
 
 -- how many statements are executable

@@ -5,7 +5,7 @@ use Rattle.sil_macros.specs.declared.names.Macro.{Macro}
 use Rattle.sil_macros.specs.declared.shapes.Kind.{Kind}
 use Rattle.sil_macros.specs.declared.shapes.Kind.TheVariants as kind
 use Rattle.sil_macros.specs.declared.shapes.Place.{Place}
-use Rattle.sil_macros.specs.Rows.{row}
+use Rattle.sil_macros.specs.MacroRows.{row}
 use Rattle.sil_operands.specs.declared.expr.Term.{Term}
 use Rattle.sil_operands.specs.declared.operand.Operand.{Operand}
 use Rattle.sil_operands.specs.declared.operand.Operand.TheVariants.{Null, Expr, List as Listed, Text}

@@ -2,9 +2,9 @@
 ghost use Rattle.std.specs.Prelude.{◌≡◌, ◌≤◌, ◌<◌, length, IfSome};
 ghost use Rattle.sil_symbols.specs.Resolved.{Resolves};
 ghost use Rattle.sil_symbols.specs.Symbols.{value_of, value_of_name};
-ghost use Rattle.sil_shapes.specs.Held.{IsResolution, measure_in};
+ghost use Rattle.sil_shapes.specs.HeldSources.{IsResolution, measure_in};
 ghost use Rattle.sil_shapes.specs.Locations.{executable_count};
-ghost use Rattle.sil_shapes.specs.Rules.{location_of, flags_of, format_at};
+ghost use Rattle.sil_shapes.specs.ShapeRules.{location_of, flags_of, format_at};
 
 use crate::locations::{executable_count, number_within, statement_at};
 use layout_params::{Layout, Params};

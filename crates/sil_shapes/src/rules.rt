@@ -1,8 +1,8 @@
 // The rules of statements.
 ghost use Rattle.std.specs.Prelude.{◌≡◌};
 ghost use Rattle.std.specs.List.{list_any};
-ghost use Rattle.sil_shapes.specs.Held.{IsResolution, measure_in};
-ghost use Rattle.sil_shapes.specs.Rules.{is_lost, rule_if, expression_rule, list_rule, operand_rule, least, operands_rule, statement_rule};
+ghost use Rattle.sil_shapes.specs.HeldSources.{IsResolution, measure_in};
+ghost use Rattle.sil_shapes.specs.ShapeRules.{is_lost, rule_if, expression_rule, list_rule, operand_rule, least, operands_rule, statement_rule};
 
 use crate::resolution::Resolution;
 use crate::shapes::fits;

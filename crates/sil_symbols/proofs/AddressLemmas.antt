@@ -5,7 +5,7 @@ use Rattle.std.proofs.lemmas.Bool.Decides.{nat_tests}
 use Rattle.std.proofs.lemmas.List.Sums.{sum_by-cons, sum_by-append}
 use Rattle.std.proofs.Math.Nat.{mul-le-mul_left}
 use Rattle.layout_params.specs.Parameters.{Parameters}
-use Rattle.layout_params.specs.Symbols.{symbol_of}
+use Rattle.layout_params.specs.ParameterSymbols.{symbol_of}
 use Rattle.sil_base.specs.declared.line.Fault.{Fault}
 use Rattle.sil_base.specs.declared.places.TheConstants.{FIRST_CELL, FIRST_ENTRY}
 use Rattle.sil_symbols.specs.declared.addresses.Spot.{Spot}
@@ -16,13 +16,13 @@ use Rattle.sil_symbols.specs.declared.outcome.Outcome.TheVariants.{Value, NoValu
 use Rattle.sil_symbols.specs.declared.part.Part.{Part}
 use Rattle.sil_symbols.specs.declared.part.Part.TheVariants.{Equation, Here, Unread, End, Descriptors, Array, Buffer, String, Format, Executable}
 use Rattle.sil_symbols.specs.declared.stmt.Stmt.{Stmt}
-use Rattle.sil_symbols.specs.Parts.{part_of, is_data, is_executable, is_equation}
+use Rattle.sil_symbols.specs.StatementParts.{part_of, is_data, is_executable, is_equation}
 use Rattle.sil_symbols.specs.Expressions.{bounded}
 use Rattle.sil_symbols.specs.Labels.{is_labelled, labelled, origin, origin_by}
-use Rattle.sil_symbols.specs.Values.{Meaning, Fixed, Equals, first_expression, equation_by, meaning_at, meanings, meaning_of, outcome_within}
+use Rattle.sil_symbols.specs.NameValues.{Meaning, Fixed, Equals, first_expression, equation_by, meaning_at, meanings, meaning_of, outcome_within}
 use Rattle.sil_symbols.specs.Addresses.{size_of, text_length, part_cells, cells_of, past_part, past, label_address, addresses_from, spot_after, first_spot}
 use Rattle.sil_symbols.specs.Symbols.{names_with, size_names, addresses, names_of, value_in, value_of_name, extent, IsWithinLimits}
-use Rattle.sil_symbols.specs.Rules.{is_defined_again, stands_at, labels_parameter, names_no_symbol, names_nothing, name_rule, with_fault, faults_from, name_faults, value_faults, first_faults, faults_of}
+use Rattle.sil_symbols.specs.SymbolRules.{is_defined_again, stands_at, labels_parameter, names_no_symbol, names_nothing, name_rule, with_fault, faults_from, name_faults, value_faults, first_faults, faults_of}
 use Rattle.sil_symbols.specs.Laws.{cell_count, statement_count, HasAddress, LawOfAddresses, AreApart, LawOfPlaces}
 
 -- ---- what stands before a statement

@@ -16,13 +16,13 @@ use Rattle.sil_symbols.specs.declared.origin.Origin.TheVariants.{Parameter, Labe
 use Rattle.sil_symbols.specs.declared.outcome.Outcome.{Outcome}
 use Rattle.sil_symbols.specs.declared.outcome.Outcome.TheVariants.{Value, NoValue, Circular}
 use Rattle.sil_symbols.specs.declared.stmt.Stmt.{Stmt}
-use Rattle.sil_symbols.specs.Parts.{part_of, is_equation, is_end, takes_size}
+use Rattle.sil_symbols.specs.StatementParts.{part_of, is_equation, is_end, takes_size}
 use Rattle.sil_symbols.specs.Expressions.{fits_integer, bounded, joined, factor_outcome, product, term_outcome, with_sign, total, outcome_of, factor_names, some_name, is_circular, equated}
 use Rattle.sil_symbols.specs.Labels.{origin}
-use Rattle.sil_symbols.specs.Values.{Meaning, Fixed, Equals, first_expression, equation_by, meanings, meaning_of, first_outcome, next_outcome, outcome_within}
+use Rattle.sil_symbols.specs.NameValues.{Meaning, Fixed, Equals, first_expression, equation_by, meanings, meaning_of, first_outcome, next_outcome, outcome_within}
 use Rattle.sil_symbols.specs.Addresses.{size_in, size_of, label_address, past, addresses_from, first_spot}
 use Rattle.sil_symbols.specs.Symbols.{names_with, size_names, names_of, value_in}
-use Rattle.sil_symbols.specs.Rules.{is_circular_equation, lacks_size, lacks_value, is_over, value_rule, with_fault, faults_from, name_faults, value_faults, first_faults, faults_of}
+use Rattle.sil_symbols.specs.SymbolRules.{is_circular_equation, lacks_size, lacks_value, is_over, value_rule, with_fault, faults_from, name_faults, value_faults, first_faults, faults_of}
 use Rattle.sil_symbols.specs.Laws.{LawOfValues, HasSize, LawOfSizes}
 
 -- ---- values have 64 bits

@@ -10,10 +10,10 @@ use Rattle.sil_symbols.specs.declared.origin.Origin.TheVariants.{Parameter, Labe
 use Rattle.sil_symbols.specs.declared.outcome.Outcome.{Outcome}
 use Rattle.sil_symbols.specs.declared.outcome.Outcome.TheVariants.{Value, NoValue, Circular}
 use Rattle.sil_symbols.specs.declared.stmt.Stmt.{Stmt}
-use Rattle.sil_symbols.specs.Parts.{part_of, is_equation}
+use Rattle.sil_symbols.specs.StatementParts.{part_of, is_equation}
 use Rattle.sil_symbols.specs.Expressions.{outcome_of, some_name, is_circular, equated}
-use Rattle.sil_symbols.specs.Values.{Meaning, Fixed, Equals, first_expression, equation_by, meaning_at, meanings, meaning_of, first_outcome, next_outcome, outcome_within}
-use Rattle.sil_symbols.specs.Held.{outcome_by, origin_in, names_in, means_in, is_settled, settled_count, equation_of, equation_at, IsFixedBy, AreSettling, QuietBy, IsQuiet}
+use Rattle.sil_symbols.specs.NameValues.{Meaning, Fixed, Equals, first_expression, equation_by, meaning_at, meanings, meaning_of, first_outcome, next_outcome, outcome_within}
+use Rattle.sil_symbols.specs.HeldNames.{outcome_by, origin_in, names_in, means_in, is_settled, settled_count, equation_of, equation_at, IsFixedBy, AreSettling, QuietBy, IsQuiet}
 use Rattle.sil_symbols.proofs.Agreement.{equated_agree, outcome_of-known, some_name_stays}
 
 not_circular : {P : Type 0} → is_circular Circular ≡ false → P

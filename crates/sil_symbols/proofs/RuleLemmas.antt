@@ -5,8 +5,8 @@ use Rattle.sil_macros.specs.declared.shapes.Place.{Place}
 use Rattle.sil_operands.specs.declared.expr.Term.{Term}
 use Rattle.sil_operands.specs.declared.operand.Operand.{Operand}
 use Rattle.sil_symbols.specs.declared.stmt.Stmt.{Stmt}
-use Rattle.sil_symbols.specs.Rules.{is_apart, expressions_in, expressions_at, with_fault, faults_from}
-use Rattle.sil_symbols.specs.Held.{is_apart_at}
+use Rattle.sil_symbols.specs.SymbolRules.{is_apart, expressions_in, expressions_at, with_fault, faults_from}
+use Rattle.sil_symbols.specs.HeldNames.{is_apart_at}
 
 drop_step : {A : Type 0} (xs : List A) (i : ℕ) (x : A) → i < length xs → x ≡ get_or xs i x → drop i xs ≡ x ∷ drop (i + 1) xs
 drop_step xs i x within is = drop-cons xs i x within ∙ ap (λ y. y ∷ drop (suc i) xs) (sym is) ∙ ap (λ n. x ∷ drop n xs) (sym (add-one i))

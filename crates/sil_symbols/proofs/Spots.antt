@@ -11,10 +11,10 @@ use Rattle.sil_symbols.specs.declared.outcome.Outcome.TheVariants.{NoValue}
 use Rattle.sil_symbols.specs.declared.part.Part.{Part}
 use Rattle.sil_symbols.specs.declared.part.Part.TheVariants.{Equation, Here, Unread, End, Descriptors, Array, Buffer, String, Format, Executable}
 use Rattle.sil_symbols.specs.declared.stmt.Stmt.{Stmt}
-use Rattle.sil_symbols.specs.Parts.{part_of}
+use Rattle.sil_symbols.specs.StatementParts.{part_of}
 use Rattle.sil_symbols.specs.Expressions.{bounded}
 use Rattle.sil_symbols.specs.Addresses.{cells_of, past, past_part, label_address, addresses_from, spot_after}
-use Rattle.sil_symbols.specs.Held.{capped}
+use Rattle.sil_symbols.specs.HeldNames.{capped}
 
 module _ (descr : ℕ) (names : List ℕ → Outcome) where
   pub spot_after-push : (spot : Spot) (xs : List Stmt) (s : Stmt) → spot_after descr names spot (xs ++ s ∷ []) ≡ past descr names (spot_after descr names spot xs) s

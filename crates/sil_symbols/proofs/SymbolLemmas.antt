@@ -5,7 +5,7 @@ use Rattle.std.proofs.lemmas.Bool.{eqb-true}
 use Rattle.std.proofs.lemmas.Bool.Decides.{nat_tests}
 use Rattle.sil_base.specs.declared.line.Fault.{Fault}
 use Rattle.layout_params.specs.Parameters.{Parameters}
-use Rattle.layout_params.specs.Symbols.{symbol_of}
+use Rattle.layout_params.specs.ParameterSymbols.{symbol_of}
 use Rattle.sil_symbols.specs.declared.addresses.Spot.{Spot}
 use Rattle.sil_symbols.specs.declared.names.Names.{Names}
 use Rattle.sil_symbols.specs.declared.outcome.Outcome.{Outcome}
@@ -13,15 +13,15 @@ use Rattle.sil_symbols.specs.declared.outcome.Outcome.TheVariants.{NoValue}
 use Rattle.sil_symbols.specs.declared.stmt.Stmt.{Stmt}
 use Rattle.sil_base.specs.declared.limits.TheConstants.{MAX_CELLS, MAX_STATEMENTS}
 use Rattle.sil_symbols.specs.declared.symbols.Outcomes.{Outcomes}
-use Rattle.sil_symbols.specs.Parts.{part_of, is_end, is_format}
+use Rattle.sil_symbols.specs.StatementParts.{part_of, is_end, is_format}
 use Rattle.sil_symbols.specs.Expressions.{outcome_of}
 use Rattle.sil_symbols.specs.Labels.{labelled, origin_by, origin}
-use Rattle.sil_symbols.specs.Values.{Meaning, meanings, meaning_of, outcome_within}
+use Rattle.sil_symbols.specs.NameValues.{Meaning, meanings, meaning_of, outcome_within}
 use Rattle.sil_symbols.specs.Addresses.{past, addresses_from, spot_after, first_spot}
 use Rattle.sil_symbols.specs.Symbols.{names_with, size_names, names_of, value_in, extent, all_cells, IsWithinLimits}
-use Rattle.sil_symbols.specs.Rules.{name_rule, is_circular_equation, lacks_size, lacks_value, is_over, value_rule, with_fault, faults_from, name_faults, value_faults, first_faults, EndsOnce}
+use Rattle.sil_symbols.specs.SymbolRules.{name_rule, is_circular_equation, lacks_size, lacks_value, is_over, value_rule, with_fault, faults_from, name_faults, value_faults, first_faults, EndsOnce}
 use Rattle.sil_symbols.specs.Resolved.{symbol_value, expression_value, symbol_format, Resolves, AreOutcomes}
-use Rattle.sil_symbols.specs.Held.{parameter_in, label_in, names_in, means_in, capped, HoldsNames}
+use Rattle.sil_symbols.specs.HeldNames.{parameter_in, label_in, names_in, means_in, capped, HoldsNames}
 
 length-addresses_from : (descr : ℕ) (names : List ℕ → Outcome) (spot : Spot) (ss : List Stmt) → length (addresses_from descr names spot ss) ≡ length ss
 length-addresses_from descr names spot [] = refl

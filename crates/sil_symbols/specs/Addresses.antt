@@ -11,9 +11,9 @@ use Rattle.sil_symbols.specs.declared.outcome.Outcome.TheVariants.{Value, NoValu
 use Rattle.sil_symbols.specs.declared.part.Part.{Part}
 use Rattle.sil_symbols.specs.declared.part.Part.TheVariants.{Equation, Here, Unread, End, Descriptors, Array, Buffer, String, Format, Executable}
 use Rattle.sil_symbols.specs.declared.stmt.Stmt.{Stmt}
-use Rattle.sil_symbols.specs.Parts.{part_of}
+use Rattle.sil_symbols.specs.StatementParts.{part_of}
 use Rattle.sil_symbols.specs.Expressions.{bounded, outcome_of}
-use Rattle.sil_symbols.specs.Values.{first_expression}
+use Rattle.sil_symbols.specs.NameValues.{first_expression}
 
 -- a size is a number from 0 to 1,048,576
 abbrev pub size_in : Outcome → Option ℕ

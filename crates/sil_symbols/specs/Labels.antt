@@ -3,11 +3,11 @@ use Rattle.std.specs.Prelude.{ℕ, List, [], ◌∷◌, Option, Some, None, Bool
 use Rattle.std.specs.List.{position_from}
 use Rattle.std.specs.Cmp.Lexicographic.{pointwise}
 use Rattle.layout_params.specs.Parameters.{Parameters}
-use Rattle.layout_params.specs.Symbols.{symbol_of}
+use Rattle.layout_params.specs.ParameterSymbols.{symbol_of}
 use Rattle.sil_symbols.specs.declared.stmt.Stmt.{Stmt}
 use Rattle.sil_symbols.specs.declared.origin.Origin.{Origin}
 use Rattle.sil_symbols.specs.declared.origin.Origin.TheVariants.{Parameter, Label}
-use Rattle.sil_symbols.specs.Parts.{part_of, is_unread}
+use Rattle.sil_symbols.specs.StatementParts.{part_of, is_unread}
 
 abbrev pub is_empty : List ℕ → Bool
 is_empty [] = true

@@ -4,12 +4,12 @@ use Rattle.std.specs.Int.{w64}
 use Rattle.layout_params.specs.Parameters.{Parameters}
 use Rattle.sil_operands.specs.declared.expr.Term.{Term}
 use Rattle.sil_symbols.specs.declared.stmt.Stmt.{Stmt}
-use Rattle.sil_symbols.specs.Parts.{part_of, takes_size, is_data, is_executable}
-use Rattle.sil_symbols.specs.Values.{first_expression}
+use Rattle.sil_symbols.specs.StatementParts.{part_of, takes_size, is_data, is_executable}
+use Rattle.sil_symbols.specs.NameValues.{first_expression}
 use Rattle.sil_symbols.specs.Addresses.{size_of, cells_of}
 use Rattle.sil_symbols.specs.Symbols.{size_names, value_of, value_of_name, IsWithinLimits}
 use Rattle.sil_symbols.specs.Labels.{is_labelled}
-use Rattle.sil_symbols.specs.Rules.{faults_of}
+use Rattle.sil_symbols.specs.SymbolRules.{faults_of}
 use Rattle.sil_base.specs.declared.places.TheConstants.{FIRST_CELL, FIRST_ENTRY}
 
 -- values have 64 bits

@@ -1,10 +1,10 @@
-pub mod Parts
+pub mod StatementParts
 pub mod Expressions
 pub mod Labels
-pub mod Values
+pub mod NameValues
 pub mod Addresses
 pub mod Symbols
-pub mod Rules
+pub mod SymbolRules
 pub mod Laws
-pub mod Held
+pub mod HeldNames
 pub mod Resolved

@@ -11,8 +11,8 @@ use Rattle.sil_symbols.specs.declared.symbols.Outcomes.{Outcomes}
 use Rattle.sil_symbols.specs.declared.symbols.Symbols.{Symbols}
 use Rattle.sil_symbols.specs.Expressions.{outcome_of}
 use Rattle.sil_symbols.specs.Symbols.{value_in, value_of_name, value_of, format_of, size_names, names_of}
-use Rattle.sil_symbols.specs.Rules.{is_over}
-use Rattle.sil_symbols.specs.Held.{names_in, label_in}
+use Rattle.sil_symbols.specs.SymbolRules.{is_over}
+use Rattle.sil_symbols.specs.HeldNames.{names_in, label_in}
 
 -- the value of a name and of an expression, and the place of a FORMAT, by symbols
 unfoldable pub symbol_value : Symbols → List ℕ → Option ℤ

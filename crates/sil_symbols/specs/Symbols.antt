@@ -8,10 +8,10 @@ use Rattle.sil_base.specs.declared.limits.TheConstants.{MAX_CELLS, MAX_STATEMENT
 use Rattle.sil_symbols.specs.declared.outcome.Outcome.{Outcome}
 use Rattle.sil_symbols.specs.declared.outcome.Outcome.TheVariants.{Value, NoValue, Circular}
 use Rattle.sil_symbols.specs.declared.stmt.Stmt.{Stmt}
-use Rattle.sil_symbols.specs.Parts.{part_of, is_format}
+use Rattle.sil_symbols.specs.StatementParts.{part_of, is_format}
 use Rattle.sil_symbols.specs.Expressions.{outcome_of}
 use Rattle.sil_symbols.specs.Labels.{labelled, origin}
-use Rattle.sil_symbols.specs.Values.{meanings, meaning_of, outcome_within}
+use Rattle.sil_symbols.specs.NameValues.{meanings, meaning_of, outcome_within}
 use Rattle.sil_symbols.specs.Addresses.{addresses_from, spot_after, first_spot}
 
 -- the outcomes of names, where the labels of these statements have these addresses: no chain of EQUs without a circle is longer than the source

@@ -2,7 +2,7 @@
 ghost use Rattle.std.specs.Prelude.{◌≡◌, ◌+◌, ◌*◌, ◌≤◌, IfOk, pos};
 ghost use Rattle.sil_symbols.specs.Expressions.{bounded};
 ghost use Rattle.sil_symbols.specs.Addresses.{size_of, text_length, cells_of, label_address, past_part, addresses_from, spot_after, first_spot};
-ghost use Rattle.sil_symbols.specs.Held.{names_in, capped};
+ghost use Rattle.sil_symbols.specs.HeldNames.{names_in, capped};
 
 use crate::expressions::outcome_of;
 use crate::labels::first_expression;

@@ -1,7 +1,7 @@
 // The outcomes of expressions.
 ghost use Rattle.std.specs.Prelude.{◌≡◌, is_none, slice_index_or};
 ghost use Rattle.sil_symbols.specs.Expressions.{factor_outcome, term_outcome, outcome_of, some_name, factor_names, is_circular};
-ghost use Rattle.sil_symbols.specs.Held.{outcome_by, names_in, origin_in};
+ghost use Rattle.sil_symbols.specs.HeldNames.{outcome_by, names_in, origin_in};
 ghost use Rattle.std.specs.List.{list_any};
 
 use crate::names::Names;

@@ -1,8 +1,8 @@
 // The faults of a source.
 ghost use Rattle.std.specs.Prelude.{◌≡◌, ◌≤◌, ◌++◌, List, length, IfOk, OnOk};
 ghost use Rattle.sil_base.specs.declared.line.Fault.{Fault};
-ghost use Rattle.sil_symbols.specs.Rules.{name_rule, value_rule, with_fault, faults_from};
-ghost use Rattle.sil_symbols.specs.Held.{parameter_in, label_in, names_in};
+ghost use Rattle.sil_symbols.specs.SymbolRules.{name_rule, value_rule, with_fault, faults_from};
+ghost use Rattle.sil_symbols.specs.HeldNames.{parameter_in, label_in, names_in};
 
 use crate::names::Names;
 use crate::rules::{Values, name_rule, value_rule};

@@ -4,8 +4,8 @@ ghost use Rattle.std.specs.Cmp.Lexicographic.{pointwise};
 ghost use Rattle.std.specs.Option.{option_copied, option_or};
 ghost use Rattle.indexmap.specs.IndexMap.{get_by};
 ghost use Rattle.sil_symbols.specs.Labels.{is_labelled, defines, labelled};
-ghost use Rattle.sil_symbols.specs.Values.{first_expression};
-ghost use Rattle.sil_symbols.specs.Held.{equation_of};
+ghost use Rattle.sil_symbols.specs.NameValues.{first_expression};
+ghost use Rattle.sil_symbols.specs.HeldNames.{equation_of};
 
 use crate::part::{Part, part_of};
 use crate::stmt::Stmt;

@@ -1,6 +1,6 @@
 // The names that a source may use.
 ghost use Rattle.std.specs.Prelude.{◌≡◌, ◌≤◌, length, IfOk};
-ghost use Rattle.sil_symbols.specs.Held.{parameter_in, label_in, origin_in, HoldsNames};
+ghost use Rattle.sil_symbols.specs.HeldNames.{parameter_in, label_in, origin_in, HoldsNames};
 
 use crate::labels::labels_of;
 use crate::origin::Origin;

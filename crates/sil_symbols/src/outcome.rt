@@ -1,7 +1,7 @@
 // Outcomes of names and of expressions.
 ghost use Rattle.std.specs.Prelude.{◌≡◌, pos, ◌+ℤ◌, ◌-ℤ◌, ◌*ℤ◌};
 ghost use Rattle.sil_symbols.specs.Expressions.{bounded, joined, with_sign, is_circular};
-ghost use Rattle.sil_symbols.specs.Rules.{is_no_value};
+ghost use Rattle.sil_symbols.specs.SymbolRules.{is_no_value};
 
 /// A value; none, by a cause of its own; or none since it rests on an EQU that rests on itself.
 #[derive(Clone, Copy, PartialEq, Eq, Debug)]

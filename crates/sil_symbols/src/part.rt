@@ -1,6 +1,6 @@
 // What the card of a macro is in a source.
 ghost use Rattle.std.specs.Prelude.{◌≡◌};
-ghost use Rattle.sil_symbols.specs.Parts.{part_of};
+ghost use Rattle.sil_symbols.specs.StatementParts.{part_of};
 
 use sil_macros::Macro;
 

@@ -2,8 +2,8 @@
 ghost use Rattle.std.specs.Prelude.{◌≡◌, ◌++◌, ◌≤◌, ◌<◌, IfOk, OnOk, is_none};
 ghost use Rattle.std.specs.List.{list_any};
 ghost use Rattle.sil_symbols.specs.Expressions.{some_name, outcome_of};
-ghost use Rattle.sil_symbols.specs.Rules.{items_in, expressions_in, expressions_at, expressions_of, is_apart, is_no_value, name_rule, is_defined_again, labels_parameter, names_no_symbol, names_nothing, is_circular_equation, lacks_size, lacks_value, value_rule};
-ghost use Rattle.sil_symbols.specs.Held.{terms_of, is_apart_at, parameter_in, label_in, origin_in, names_in};
+ghost use Rattle.sil_symbols.specs.SymbolRules.{items_in, expressions_in, expressions_at, expressions_of, is_apart, is_no_value, name_rule, is_defined_again, labels_parameter, names_no_symbol, names_nothing, is_circular_equation, lacks_size, lacks_value, value_rule};
+ghost use Rattle.sil_symbols.specs.HeldNames.{terms_of, is_apart_at, parameter_in, label_in, origin_in, names_in};
 
 use crate::addresses::size_of;
 use crate::expressions::{is_circular, is_unknown, outcome_of};

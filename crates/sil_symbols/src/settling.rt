@@ -1,7 +1,7 @@
 // The outcomes of labels, by what their EQUs name.
 ghost use Rattle.std.specs.Prelude.{◌≡◌, ◌<◌, ◌≤◌, ℕ, length, false, true, List, IfOk, map};
-ghost use Rattle.sil_symbols.specs.Values.{Meaning, meaning_at, meanings, first_outcome, outcome_within};
-ghost use Rattle.sil_symbols.specs.Held.{names_in, means_in, settled_count, AreSettling, IsQuiet};
+ghost use Rattle.sil_symbols.specs.NameValues.{Meaning, meaning_at, meanings, first_outcome, outcome_within};
+ghost use Rattle.sil_symbols.specs.HeldNames.{names_in, means_in, settled_count, AreSettling, IsQuiet};
 
 use crate::expressions::{is_circular, outcome_at, outcome_of};
 use crate::labels::equation_of;

@@ -2,9 +2,9 @@
 ghost use Rattle.std.specs.Prelude.{◌≡◌, ◌≤◌, [], length, map, IfOk, IfErr, OnOk, slice_index_or, false, Some, None, if◌then◌else◌};
 ghost use Rattle.sil_base.specs.Faults.{IsStopFor};
 ghost use Rattle.sil_symbols.specs.Symbols.{value_in, IsWithinLimits};
-ghost use Rattle.sil_symbols.specs.Parts.{part_of, is_format};
-ghost use Rattle.sil_symbols.specs.Rules.{value_rule, faults_from, faults_of, EndsOnce};
-ghost use Rattle.sil_symbols.specs.Held.{names_in, capped, HoldsNames};
+ghost use Rattle.sil_symbols.specs.StatementParts.{part_of, is_format};
+ghost use Rattle.sil_symbols.specs.SymbolRules.{value_rule, faults_from, faults_of, EndsOnce};
+ghost use Rattle.sil_symbols.specs.HeldNames.{names_in, capped, HoldsNames};
 ghost use Rattle.sil_symbols.specs.Resolved.{symbol_value, expression_value, symbol_format, is_past, AreOutcomes, Resolves};
 ghost use Rattle.sil_symbols.specs.declared.addresses.Spot.{Spot};
 

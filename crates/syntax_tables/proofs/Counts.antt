@@ -6,7 +6,7 @@ use Rattle.std.proofs.lemmas.Bool.Decides.{nat_tests}
 use Rattle.sil_base.specs.Names.{is_word}
 use Rattle.sil_base.specs.declared.line.Fault.{Fault}
 use Rattle.sil_model.specs.declared.table.Table.{Table}
-use Rattle.syntax_tables.specs.Files.{names_in, onto_names}
+use Rattle.syntax_tables.specs.TableFiles.{names_in, onto_names}
 use Rattle.syntax_tables.specs.Tables.{Values, table_of, tables_in, onto_tables, with_fault, broken_by, broken_by_name, count_after, faults_from}
 use Rattle.syntax_tables.specs.declared.saying.Saying.{Saying}
 use Rattle.syntax_tables.specs.declared.saying.Saying.TheVariants.{Begin, For, Else, End}

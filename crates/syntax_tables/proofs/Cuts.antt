@@ -2,7 +2,7 @@
 use Rattle.std.proofs.Common.{◌≡◌, ℕ, ◌+◌, ◌<◌, Bool, true, false, cond, not, ◌&&◌, List, [], ◌∷◌, ◌++◌, length, take, drop, get_or, refl, sym, ap, ◌∙◌, append_assoc}
 use Rattle.std.specs.List.{onto_first}
 use Rattle.std.proofs.lemmas.List.{take_more, at_drop_more}
-use Rattle.syntax_tables.specs.Texts.{open_parts, separates, quoted_after}
+use Rattle.syntax_tables.specs.TableTexts.{open_parts, separates, quoted_after}
 use Rattle.syntax_tables.specs.declared.cutting.Separator.{Separator}
 
 -- these bytes stand before the first part

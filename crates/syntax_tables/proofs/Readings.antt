@@ -1,6 +1,6 @@
 -- What is read, line by line.
 use Rattle.std.proofs.Common.{◌≡◌, List, [], ◌∷◌, ◌++◌, Ok, Err, refl, sym, ap, append_assoc}
-use Rattle.syntax_tables.specs.Files.{Reading, with_line}
+use Rattle.syntax_tables.specs.TableFiles.{Reading, with_line}
 use Rattle.syntax_tables.specs.Going.{after_lines}
 use Rattle.syntax_tables.specs.declared.saying.Said.{Said}
 

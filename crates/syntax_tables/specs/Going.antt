@@ -3,7 +3,7 @@ use Rattle.std.specs.Prelude.{◌≡◌, ℕ, List, [], ◌∷◌, ◌++◌}
 use Rattle.std.specs.declared.result.Result.TheVariants.{Ok, Err}
 use Rattle.sil_base.specs.declared.fault_stop.FaultStop.{FaultStop}
 use Rattle.sil_base.specs.declared.fault_stop.FaultStop.TheVariants as stop
-use Rattle.syntax_tables.specs.Files.{Reading, reading, table_fault}
+use Rattle.syntax_tables.specs.TableFiles.{Reading, reading, table_fault}
 use Rattle.syntax_tables.specs.declared.saying.Said.{Said}
 use Rattle.syntax_tables.specs.declared.reading.Reader.{Reader}
 

@@ -1,6 +1,6 @@
-pub mod Texts
+pub mod TableTexts
 pub mod Sayings
-pub mod Files
+pub mod TableFiles
 pub mod Numbers
 pub mod Going
 pub mod Tables

@@ -2,11 +2,11 @@
 use Rattle.std.specs.Prelude.{ℕ, ◌+◌, Bool, ◌&&◌, ◌==◌, nat_le, List, [], ◌∷◌, take, drop, codes, position, Option, Some, None, option_map, option_and_then, if◌then◌else◌}
 use Rattle.std.specs.List.{list_any}
 use Rattle.sil_base.specs.Names.{is_word, is_name, is_number, value_of}
-use Rattle.sil_operands.specs.Reading.{each, operands_of}
+use Rattle.sil_operands.specs.OperandReading.{each, operands_of}
 use Rattle.sil_operands.specs.declared.expr.Term.{Term}
 use Rattle.sil_operands.specs.declared.operand.Operand.{Operand}
 use Rattle.sil_operands.specs.declared.operand.Operand.TheVariants as operand
-use Rattle.syntax_tables.specs.Texts.{words_of, items_of, bracketed}
+use Rattle.syntax_tables.specs.TableTexts.{words_of, items_of, bracketed}
 use Rattle.syntax_tables.specs.declared.class.Item.{Item}
 use Rattle.syntax_tables.specs.declared.class.Item.TheVariants as item
 use Rattle.syntax_tables.specs.declared.rule.Move.{Move}

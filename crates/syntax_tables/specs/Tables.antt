@@ -9,7 +9,7 @@ use Rattle.sil_model.specs.declared.table.Action.TheVariants as action
 use Rattle.sil_model.specs.declared.table.Entry.{Entry}
 use Rattle.sil_model.specs.declared.table.Table.{Table}
 use Rattle.syntax_tables.specs.Sayings.{class_has}
-use Rattle.syntax_tables.specs.Files.{names_in, table_named, table_fault}
+use Rattle.syntax_tables.specs.TableFiles.{names_in, table_named, table_fault}
 use Rattle.syntax_tables.specs.declared.rule.Move.{Move}
 use Rattle.syntax_tables.specs.declared.rule.Move.TheVariants as move
 use Rattle.syntax_tables.specs.declared.rule.Rule.{Rule}

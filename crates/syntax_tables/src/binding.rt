@@ -6,7 +6,7 @@ ghost use Rattle.sil_base.specs.Names.{is_word};
 ghost use Rattle.sil_base.specs.declared.line.Fault.{Fault};
 ghost use Rattle.sil_model.specs.WellFormed.{IsTable};
 ghost use Rattle.sil_symbols.specs.Resolved.{expression_value};
-ghost use Rattle.syntax_tables.specs.Files.{names_in};
+ghost use Rattle.syntax_tables.specs.TableFiles.{names_in};
 ghost use Rattle.syntax_tables.specs.Tables.{goes_astray, lacks_value, broken_by_rule, broken_by_name, broken_by, with_fault, count_after, faults_from, faults_of, tables_of};
 
 use crate::reading::TableStop;

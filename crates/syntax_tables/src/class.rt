@@ -1,7 +1,7 @@
 // Classes of characters.
 ghost use Rattle.std.specs.Prelude.{◌≡◌, ◌==◌, position, option_map};
-ghost use Rattle.sil_operands.specs.Reading.{Answers, each};
-ghost use Rattle.syntax_tables.specs.Texts.{items_of};
+ghost use Rattle.sil_operands.specs.OperandReading.{Answers, each};
+ghost use Rattle.syntax_tables.specs.TableTexts.{items_of};
 ghost use Rattle.syntax_tables.specs.Sayings.{one_text, text_in, code_in, range_of, codes_in, item_in, class_in, item_has, class_has};
 
 use crate::cutting::{Separator, cut_open};

@@ -1,7 +1,7 @@
 // Cuts of lines into words, and of classes into items.
 ghost use Rattle.std.specs.Prelude.{◌≡◌, ◌+◌, ◌<◌, ◌&&◌, [], ◌∷◌, length, take, drop, not, false, MatchOption, IfSome, IfOk, option_map};
 ghost use Rattle.sil_base.specs.Names.{texts_of};
-ghost use Rattle.syntax_tables.specs.Texts.{separates, quoted_after, open_parts, words_of, bracketed};
+ghost use Rattle.syntax_tables.specs.TableTexts.{separates, quoted_after, open_parts, words_of, bracketed};
 
 use std::alloc::{AllocError, Global};
 
@@ -77,7 +77,7 @@ pub(crate) fn words_of(alloc: Global, line: &[u8]) -> Result<Vec<&[u8]>, AllocEr
 }
 
 /// What stands in a word after this front, and before the bracket that ends it.
-#[tactic(auto, unfolding(crate::specs::Texts::bracketed))]
+#[tactic(auto, unfolding(crate::specs::TableTexts::bracketed))]
 pub(crate) fn bracketed<'a>(front: &[u8], word: &'a [u8]) -> Option<&'a [u8]>
     ensures { option_map (λ inner. inner.now) result ≡ bracketed front.now word.now }
 {

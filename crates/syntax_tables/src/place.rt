@@ -1,6 +1,6 @@
 // Where a tables file stands between two lines.
 ghost use Rattle.std.specs.Prelude.{◌≡◌, IfOk};
-ghost use Rattle.syntax_tables.specs.Files.{place_after, closed};
+ghost use Rattle.syntax_tables.specs.TableFiles.{place_after, closed};
 
 use crate::saying::Saying;
 use sil_base::Record;

@@ -1,6 +1,6 @@
 // The lines of a tables file, to the first that breaks a rule.
 ghost use Rattle.std.specs.Prelude.{◌≡◌, ◌+◌, ◌≤◌, ◌<◌, List, [], ◌∷◌, length, false, IfOk, MatchResult, Ok, Err, Some, None, ℕ};
-ghost use Rattle.syntax_tables.specs.Files.{is_skipped, table_fault, written_of, is_free};
+ghost use Rattle.syntax_tables.specs.TableFiles.{is_skipped, table_fault, written_of, is_free};
 ghost use Rattle.syntax_tables.specs.Going.{going_on, Breaks};
 ghost use Rattle.syntax_tables.specs.Sayings.{said_in};
 

@@ -1,7 +1,7 @@
 // Rules of tables: what to put, and the action.
 ghost use Rattle.std.specs.Prelude.{◌≡◌, ◌∷◌, codes, option_map};
 ghost use Rattle.sil_base.specs.Names.{texts_of};
-ghost use Rattle.sil_operands.specs.Reading.{Answers};
+ghost use Rattle.sil_operands.specs.OperandReading.{Answers};
 ghost use Rattle.syntax_tables.specs.Sayings.{one_expression, expression_in, goto_in, move_in, put_in, rule_in};
 
 use crate::cutting::bracketed;

@@ -1,7 +1,7 @@
 // What the lines of a tables file say.
 ghost use Rattle.std.specs.Prelude.{◌≡◌, codes, option_map};
 ghost use Rattle.sil_base.specs.Names.{texts_of};
-ghost use Rattle.sil_operands.specs.Reading.{Answers};
+ghost use Rattle.sil_operands.specs.OperandReading.{Answers};
 ghost use Rattle.syntax_tables.specs.Sayings.{name_in, for_in, said_by, said_in};
 
 use crate::class::{Item, read_class};

@@ -3,7 +3,7 @@ ghost use Rattle.std.specs.Prelude.{◌≡◌, ◌==◌, length, All, IfOk, opti
 ghost use Rattle.std.specs.List.{list_any};
 ghost use Rattle.sil_model.specs.WellFormed.{GoesWithin, IsEntry, IsTable};
 ghost use Rattle.sil_symbols.specs.Resolved.{expression_value};
-ghost use Rattle.syntax_tables.specs.Files.{names_in};
+ghost use Rattle.syntax_tables.specs.TableFiles.{names_in};
 ghost use Rattle.syntax_tables.specs.Sayings.{item_has, class_has};
 ghost use Rattle.syntax_tables.specs.Tables.{rule_at, goto_of, action_of, entry_of, entry_at, table_of, tables_of};
 

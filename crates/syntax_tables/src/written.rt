@@ -4,7 +4,7 @@ ghost use Rattle.std.specs.Cmp.Lexicographic.{pointwise};
 ghost use Rattle.std.specs.Option.{option_or};
 ghost use Rattle.indexmap.specs.IndexMap.{get_by};
 ghost use Rattle.sil_base.specs.Names.{is_word};
-ghost use Rattle.syntax_tables.specs.Files.{names_in, table_named};
+ghost use Rattle.syntax_tables.specs.TableFiles.{names_in, table_named};
 ghost use Rattle.syntax_tables.specs.Numbers.{HasNumbers};
 
 use crate::saying::{Said, Saying};
@@ -21,7 +21,7 @@ pub struct Written {
 
 impl Model for Written {
     ghost use Rattle.std.specs.Prelude.{List};
-    ghost use Rattle.syntax_tables.specs.Files.{names_in};
+    ghost use Rattle.syntax_tables.specs.TableFiles.{names_in};
     ghost use Rattle.syntax_tables.specs.Numbers.{HasNumbers};
     ghost use Rattle.syntax_tables.specs.declared.saying.Said.{Said};
 

@@ -1,6 +1,6 @@
 pub mod Numbered
 pub mod Tapes
-pub mod Runs
+pub mod RunEnds
 pub mod Answers
 pub mod Units
 pub mod Calls

@@ -2,7 +2,7 @@ use Rattle.std.proofs.Common.{◌<◌, ℕ, ap, subst, ◌∙◌}
 use Rattle.std.specs.Prelude.{All}
 use Rattle.sil_model.specs.Start.{limits_of}
 use Rattle.sil_symbols.specs.Symbols.{value_of}
-use Rattle.data_asm.specs.Fields.{first_text}
+use Rattle.data_asm.specs.DataFields.{first_text}
 use Rattle.data_asm.proofs.FitLemmas.{data_fit}
 use Rattle.data_asm.proofs.assembly.law_of_data.Goals as goal
 

@@ -1,6 +1,6 @@
 use Rattle.std.proofs.Common.{◌≡◌, ◌++◌, drop}
-use Rattle.sil_symbols.specs.Rules.{faults_from}
-use Rattle.data_asm.specs.Faults.{data_rule}
+use Rattle.sil_symbols.specs.SymbolRules.{faults_from}
+use Rattle.data_asm.specs.DataFaults.{data_rule}
 use Rattle.data_asm.proofs.faults.data_faults.Given as goal
 
 abbrev pub invariant-loop-statement : goal.invariant-loop-statement

@@ -1,6 +1,6 @@
 use Rattle.std.proofs.Common.{◌≡◌, ◌≤◌, ◌++◌, ◌∷◌, [], length, take, drop, append_assoc, arith, ap, sym, ◌∙◌}
 use Rattle.std.proofs.lemmas.Bool.Decides.{nat_tests}
-use Rattle.data_asm.specs.Texts.{characters, text_cells}
+use Rattle.data_asm.specs.CharacterCells.{characters, text_cells}
 use Rattle.data_asm.proofs.TextLemmas.{text_step}
 use Rattle.data_asm.proofs.texts.push_text.Goals as goal
 

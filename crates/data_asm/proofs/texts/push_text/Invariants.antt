@@ -1,5 +1,5 @@
 use Rattle.std.proofs.Common.{◌≡◌, ◌++◌, length}
-use Rattle.data_asm.specs.Texts.{text_cells}
+use Rattle.data_asm.specs.CharacterCells.{text_cells}
 use Rattle.data_asm.proofs.texts.push_text.Given as goal
 
 abbrev pub invariant-loop-rest : goal.invariant-loop-rest

@@ -1,7 +1,7 @@
 use Rattle.std.proofs.Common.{[], ◌∷◌, ◌++◌, refl, sym, subst}
 use Rattle.std.proofs.lemmas.Result.{err_from_is_err_and}
 use Rattle.image_file.specs.Image.{Image, image_of}
-use Rattle.image_file.specs.Grammar.{StatementsPart, WordsPart, Stand, head_parts, body_parts, IsImageFile}
+use Rattle.image_file.specs.ImageGrammar.{StatementsPart, WordsPart, Stand, head_parts, body_parts, IsImageFile}
 use Rattle.image_file.proofs.Files.{body_wrong, stand_then, legal_parts, whole_file}
 use Rattle.image_file.proofs.Stops.{refused_at}
 use Rattle.image_file.proofs.body.read_body.Goals as goal

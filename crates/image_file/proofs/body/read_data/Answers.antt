@@ -4,7 +4,7 @@ use Rattle.std.proofs.lemmas.Bool.Decides.{nat_tests}
 use Rattle.layout_params.specs.Sizes.{Sizes}
 use Rattle.layout_params.specs.Parameters.{Settings}
 use Rattle.image_file.specs.Image.{Image}
-use Rattle.image_file.specs.Grammar.{StatementsPart, WordsPart, ConstantsPart, CellsPart, KindsPart, TablesPart, EndPart, parts}
+use Rattle.image_file.specs.ImageGrammar.{StatementsPart, WordsPart, ConstantsPart, CellsPart, KindsPart, TablesPart, EndPart, parts}
 use Rattle.image_file.proofs.Files.{body_wrong, stand_then}
 use Rattle.image_file.proofs.Stops.{refused_at}
 use Rattle.image_file.proofs.body.read_data.Goals as goal

@@ -2,7 +2,7 @@ use Rattle.std.proofs.Common.{◌≡◌, ◌+◌, ◌*◌, ◌++◌, length, map
 use Rattle.std.specs.List.{flat_map}
 use Rattle.image_file.specs.Image.{entry_of}
 use Rattle.image_file.specs.Spelling.{entry_part}
-use Rattle.image_file.specs.Reading.{FitEntries}
+use Rattle.image_file.specs.ImageReading.{FitEntries}
 use Rattle.image_file.proofs.entries.read_entries.Given as goal
 
 -- the bytes of the entries so far are behind, and the others are left

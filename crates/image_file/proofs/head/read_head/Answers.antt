@@ -3,7 +3,7 @@ use Rattle.std.proofs.lemmas.Result.{err_from_is_err_and}
 use Rattle.layout_params.specs.Parameters.{Settings}
 use Rattle.image_file.specs.declared.counts.Counts.{Counts}
 use Rattle.image_file.specs.Image.{Image, image_of}
-use Rattle.image_file.specs.Grammar.{MarkPart, VersionPart, SettingsPart, CountsPart, LimitsPart, AreWithin, Stand, parts}
+use Rattle.image_file.specs.ImageGrammar.{MarkPart, VersionPart, SettingsPart, CountsPart, LimitsPart, AreWithin, Stand, parts}
 use Rattle.image_file.proofs.Agreement.{counts_from, settings_of}
 use Rattle.image_file.proofs.Files.{head_wrong}
 use Rattle.image_file.proofs.Stops.{refused_at}

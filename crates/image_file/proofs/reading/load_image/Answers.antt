@@ -1,6 +1,6 @@
 use Rattle.std.specs.Prelude.{MatchResult}
 use Rattle.std.proofs.lemmas.Result.{err_from_is_err_and}
-use Rattle.image_file.specs.Grammar.{IsImageFile, IsRefused}
+use Rattle.image_file.specs.ImageGrammar.{IsImageFile, IsRefused}
 use Rattle.image_file.proofs.Files.{reads_again, refuses}
 use Rattle.image_file.proofs.reading.load_image.Goals as goal
 

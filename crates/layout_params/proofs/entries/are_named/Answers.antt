@@ -4,7 +4,7 @@ use Rattle.std.proofs.lemmas.Iterator.{YieldsList-from_slice}
 use Rattle.std.proofs.lemmas.Iterator.Search.{all_from_yields_List}
 use Rattle.std.proofs.lemmas.List.Folds.{list_all-map}
 use Rattle.layout_params.specs.Entries.{entry_named}
-use Rattle.layout_params.specs.Held.{entries_held}
+use Rattle.layout_params.specs.HeldEntries.{entries_held}
 use Rattle.layout_params.proofs.entries.are_named.Goals as goal
 
 pub returns : goal.returns

@@ -1,8 +1,8 @@
 use Rattle.std.proofs.Common.{◌≡◌, ◌∙◌, ◌+◌, ◌++◌, true, sym, ap, arith, drop, List}
-use Rattle.layout_params.specs.Lines.{Entry, entries_from}
-use Rattle.layout_params.specs.Faults.{name_fault, is_new_name}
+use Rattle.layout_params.specs.ParameterLines.{Entry, entries_from}
+use Rattle.layout_params.specs.ParameterFaults.{name_fault, is_new_name}
 use Rattle.sil_base.specs.Names.{texts_of}
-use Rattle.layout_params.specs.Held.{entries_held, entry_held, parts_held}
+use Rattle.layout_params.specs.HeldEntries.{entries_held, entry_held, parts_held}
 use Rattle.layout_params.proofs.EntryLemmas.{entries_take, entries_held-push, entries_more, name_fault-new}
 use Rattle.layout_params.proofs.entries.entries_of.Goals as goal
 

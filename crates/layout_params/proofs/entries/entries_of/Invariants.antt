@@ -1,8 +1,8 @@
 use Rattle.std.proofs.Common.{◌≡◌, ◌+◌, [], ◌++◌, drop}
-use Rattle.layout_params.specs.Lines.{entries_from}
-use Rattle.layout_params.specs.Faults.{name_fault}
+use Rattle.layout_params.specs.ParameterLines.{entries_from}
+use Rattle.layout_params.specs.ParameterFaults.{name_fault}
 use Rattle.sil_base.specs.Names.{texts_of}
-use Rattle.layout_params.specs.Held.{entries_held}
+use Rattle.layout_params.specs.HeldEntries.{entries_held}
 use Rattle.layout_params.proofs.entries.entries_of.Given as goal
 
 -- the entries so far, and those of the rest; no name so far has a fault

@@ -1,6 +1,6 @@
 use Rattle.std.proofs.Common.{◌≡◌, drop}
 use Rattle.layout_params.specs.Entries.{entry_named}
-use Rattle.layout_params.specs.Held.{entries_held}
+use Rattle.layout_params.specs.HeldEntries.{entries_held}
 use Rattle.layout_params.proofs.entries.entry_named.Given as goal
 
 -- it is not among the entries so far

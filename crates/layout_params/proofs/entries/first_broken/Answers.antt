@@ -2,7 +2,7 @@ use Rattle.std.proofs.Common.{rules, tests}
 use Rattle.std.proofs.lemmas.List.{length-map}
 use Rattle.std.proofs.lemmas.Iterator.{YieldsList-from_slice}
 use Rattle.std.proofs.lemmas.Iterator.Search.{position_from_yields_List}
-use Rattle.layout_params.specs.Lines.{breaks_form}
+use Rattle.layout_params.specs.ParameterLines.{breaks_form}
 use Rattle.sil_base.proofs.Searches.{position_or_len-map}
 use Rattle.layout_params.proofs.entries.first_broken.Goals as goal
 

@@ -1,7 +1,7 @@
 use Rattle.std.proofs.Common.{◌≡◌, ◌∙◌, None, sym, arith}
 use Rattle.layout_params.specs.Views.{sizes_of}
 use Rattle.layout_params.specs.Entries.{line_named}
-use Rattle.layout_params.specs.Held.{entries_held}
+use Rattle.layout_params.specs.HeldEntries.{entries_held}
 use Rattle.layout_params.proofs.LegalLemmas.{layout_kept}
 use Rattle.layout_params.proofs.faults.value_fault.Goals as goal
 

@@ -3,7 +3,7 @@ use Rattle.std.proofs.lemmas.List.{append-nil, map-append}
 use Rattle.sil_base.specs.Lines as text
 use Rattle.sil_base.specs.Lines.{without_end}
 use Rattle.sil_base.specs.Names.{texts_of}
-use Rattle.layout_params.specs.Lines.{lines_of}
+use Rattle.layout_params.specs.ParameterLines.{lines_of}
 use Rattle.layout_params.proofs.lines.lines_of.Goals as goal
 
 texts_of-push : (all texts : List (Bor (List ℕ))) (text : Bor (List ℕ)) → all ≡ texts ++ text ∷ [] → texts_of all ≡ texts_of texts ++ text.now ∷ []

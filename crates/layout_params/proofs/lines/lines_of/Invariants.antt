@@ -1,5 +1,5 @@
 use Rattle.std.proofs.Common.{◌≡◌, ◌≤◌, ◌+◌, ◌++◌, length, vec_len}
-use Rattle.layout_params.specs.Lines.{lines_of}
+use Rattle.layout_params.specs.ParameterLines.{lines_of}
 use Rattle.sil_base.specs.Names.{texts_of}
 use Rattle.layout_params.proofs.lines.lines_of.Given as goal
 

@@ -1,6 +1,6 @@
 use Rattle.std.proofs.Common.{sym}
 use Rattle.layout_params.specs.Entries.{line_named}
-use Rattle.layout_params.specs.Held.{entries_held, drafted}
+use Rattle.layout_params.specs.HeldEntries.{entries_held, drafted}
 use Rattle.layout_params.proofs.LegalLemmas.{faultless_legal}
 use Rattle.layout_params.proofs.reading.read_params.Goals as goal
 

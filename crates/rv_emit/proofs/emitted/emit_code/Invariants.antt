@@ -1,6 +1,6 @@
 use Rattle.std.proofs.Common.{◌≡◌, ◌+◌, ◌*◌, ◌++◌, length, drop}
 use Rattle.std.specs.Prelude.{map}
-use Rattle.rv_isa.specs.Words.{word_of}
+use Rattle.rv_isa.specs.InstrWords.{word_of}
 use Rattle.sil_base.specs.declared.places.TheConstants.{FIRST_WORD}
 use Rattle.rv_emit.specs.Code.{codes_from, joined_codes, past_code, places_from, places_of, words_of}
 use Rattle.rv_emit.proofs.emitted.emit_code.Given as goal

@@ -1,6 +1,6 @@
 use Rattle.std.proofs.Common.{◌≡◌, ℕ, List, subst, IfOk}
-use Rattle.rv_emulate.specs.States.{first_memory}
-use Rattle.rv_emulate.specs.View.{memory_of}
+use Rattle.rv_emulate.specs.EmulatorStates.{first_memory}
+use Rattle.rv_emulate.specs.CpuView.{memory_of}
 use Rattle.rv_emulate.proofs.start.first_memory.Goals as goal
 
 pub returns : goal.returns

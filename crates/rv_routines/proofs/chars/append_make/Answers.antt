@@ -1,5 +1,5 @@
 use Rattle.std.proofs.Common.{[], ◌∷◌}
-use Rattle.rv_routines.specs.Codes.{make_front, make_routine}
+use Rattle.rv_routines.specs.RoutineCodes.{make_front, make_routine}
 use Rattle.rv_routines.proofs.Appended.{with_zeros, on_ok}
 use Rattle.rv_routines.proofs.chars.append_make.Goals as goal
 

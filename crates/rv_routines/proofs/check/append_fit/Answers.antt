@@ -1,6 +1,6 @@
 use Rattle.std.proofs.Common.{[], ◌∷◌, arith}
 use Rattle.std.proofs.lemmas.Grind.{common_steps}
-use Rattle.rv_routines.specs.Codes.{check_routine, fit_routine}
+use Rattle.rv_routines.specs.RoutineCodes.{check_routine, fit_routine}
 use Rattle.rv_routines.proofs.Appended.{in_two}
 use Rattle.rv_routines.proofs.check.append_fit.Goals as goal
 

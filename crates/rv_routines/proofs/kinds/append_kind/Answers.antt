@@ -1,5 +1,5 @@
 use Rattle.std.proofs.Common.{[], ◌∷◌}
-use Rattle.rv_routines.specs.Codes.{kind_front, kind_routine}
+use Rattle.rv_routines.specs.RoutineCodes.{kind_front, kind_routine}
 use Rattle.rv_routines.proofs.Appended.{with_zeros, on_ok}
 use Rattle.rv_routines.proofs.kinds.append_kind.Goals as goal
 

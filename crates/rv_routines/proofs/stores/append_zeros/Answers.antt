@@ -1,5 +1,5 @@
 use Rattle.std.proofs.Common.{[], ◌∷◌, ◌++◌, ap, ◌∙◌}
-use Rattle.rv_routines.specs.Codes.{zeros_code}
+use Rattle.rv_routines.specs.RoutineCodes.{zeros_code}
 use Rattle.rv_routines.proofs.Appended.{one_more}
 use Rattle.rv_routines.proofs.stores.append_zeros.Goals as goal
 

@@ -1,5 +1,5 @@
 use Rattle.std.proofs.Common.{◌≡◌, ◌++◌}
-use Rattle.rv_routines.specs.Codes.{zeros_code}
+use Rattle.rv_routines.specs.RoutineCodes.{zeros_code}
 use Rattle.rv_routines.proofs.stores.append_zeros.Given as goal
 
 abbrev pub invariant-loop-k : goal.invariant-loop-k

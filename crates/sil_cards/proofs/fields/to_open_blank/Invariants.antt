@@ -1,5 +1,5 @@
 use Rattle.std.proofs.Common.{◌≡◌, ◌++◌, take, drop, false}
-use Rattle.sil_cards.specs.Fields.{to_open_blank}
+use Rattle.sil_cards.specs.CardFields.{to_open_blank}
 use Rattle.sil_cards.proofs.fields.to_open_blank.Given as goal
 
 abbrev pub invariant-loop-i : goal.invariant-loop-i

@@ -2,7 +2,7 @@ use Rattle.std.proofs.Common.{◌≡◌, ◌≤◌, ◌++◌, List, length, Some
 use Rattle.sil_base.specs.Files.{Files}
 use Rattle.sil_base.specs.Lines.{lines_of}
 use Rattle.sil_cards.specs.Reads.{Read, file_read, lines_read}
-use Rattle.sil_cards.specs.Steps.{going_on, IsGoing}
+use Rattle.sil_cards.specs.CardSteps.{going_on, IsGoing}
 use Rattle.sil_cards.proofs.reading.+read_file.Given as goal
 
 abbrev pub decreases-read_file : goal.decreases-read_file

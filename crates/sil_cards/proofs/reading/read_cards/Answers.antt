@@ -5,7 +5,7 @@ use Rattle.std.proofs.lemmas.Result.{err_from_is_err_and, MatchResult-weaker}
 use Rattle.sil_base.specs.Files.{Files}
 use Rattle.sil_cards.specs.declared.stop.CardStop.{CardStop}
 use Rattle.sil_cards.specs.Readings.{cards_of, loads_of, StopsAt}
-use Rattle.sil_cards.specs.Steps.{is_free}
+use Rattle.sil_cards.specs.CardSteps.{is_free}
 use Rattle.sil_cards.proofs.LoadLemmas.{stops_at}
 use Rattle.sil_cards.proofs.ReadLemmas.{whole, told_is}
 use Rattle.sil_cards.proofs.reading.read_cards.Goals as goal

@@ -5,7 +5,7 @@ use Rattle.sil_macros.specs.declared.names.Macro.{Macro}
 use Rattle.sil_macros.specs.declared.names.Macro.TheVariants as macros
 use Rattle.sil_macros.specs.Macros.{with_name}
 use Rattle.sil_operands.specs.declared.operand.Operand.{Operand}
-use Rattle.sil_operands.specs.Reading.{operands_of}
+use Rattle.sil_operands.specs.OperandReading.{operands_of}
 use Rattle.sil_cards.specs.Contents.{operation_of, operands_at}
 use Rattle.sil_cards.proofs.CardLemmas.{copy_not_taken}
 use Rattle.sil_cards.proofs.verdict.judge_fields.Goals as goal

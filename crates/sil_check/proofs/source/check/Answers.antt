@@ -1,9 +1,9 @@
 use Rattle.std.specs.Prelude.{◌≡◌}
 use Rattle.std.proofs.Common.{subst, sym, ◌∙◌}
 use Rattle.std.proofs.lemmas.Result.{IfOk-weaker}
-use Rattle.sil_symbols.specs.Rules.{EndsOnce}
+use Rattle.sil_symbols.specs.SymbolRules.{EndsOnce}
 use Rattle.sil_check.specs.Statements.{statements_of}
-use Rattle.sil_check.specs.Held.{HaveShortLists}
+use Rattle.sil_check.specs.HeldPrograms.{HaveShortLists}
 use Rattle.sil_check.proofs.CardLemmas.{ended, short_lists}
 use Rattle.sil_check.proofs.ProgramLemmas.{checked}
 use Rattle.sil_check.proofs.source.check.Goals as goal

@@ -1,5 +1,5 @@
 use Rattle.std.proofs.Common.{◌≡◌, ◌++◌, drop}
-use Rattle.sil_symbols.specs.Rules.{faults_from}
+use Rattle.sil_symbols.specs.SymbolRules.{faults_from}
 use Rattle.sil_check.specs.Specials.{special_rule}
 use Rattle.sil_check.proofs.specials.special_faults.Given as goal
 

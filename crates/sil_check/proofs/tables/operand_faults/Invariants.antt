@@ -1,7 +1,7 @@
 use Rattle.std.proofs.Common.{◌≡◌, ◌++◌, drop}
-use Rattle.sil_symbols.specs.Rules.{faults_from}
-use Rattle.syntax_tables.specs.Files.{names_in, table_named}
-use Rattle.sil_check.specs.Tables.{table_rule}
+use Rattle.sil_symbols.specs.SymbolRules.{faults_from}
+use Rattle.syntax_tables.specs.TableFiles.{names_in, table_named}
+use Rattle.sil_check.specs.TableFaults.{table_rule}
 use Rattle.sil_check.proofs.tables.operand_faults.Given as goal
 
 abbrev pub invariant-loop-statement : goal.invariant-loop-statement

@@ -2,7 +2,7 @@ use Rattle.std.proofs.Common.{subst, refl}
 use Rattle.std.proofs.lemmas.Result.{err_from_is_err_and}
 use Rattle.image_file.specs.Image.{Image}
 use Rattle.unit_io.specs.Units.{tapes_of}
-use Rattle.sil_cli.specs.Runs.{RunsSo}
+use Rattle.sil_cli.specs.ImageRuns.{RunsSo}
 use Rattle.sil_cli.proofs.running.run_image.Goals as goal
 
 pub returns-in_err-image-clause-accepts : goal.returns-in_err-image-clause-accepts

@@ -1,5 +1,5 @@
 use Rattle.std.proofs.Common.{◌<◌, sym, ◌∙◌, arith}
-use Rattle.sil_format.specs.Grammar.{value_of}
+use Rattle.sil_format.specs.FormatGrammar.{value_of}
 use Rattle.sil_format.proofs.NumberLemmas.{next_digit, next_blank, too_high}
 use Rattle.sil_format.proofs.cutting.number_in.Goals as goal
 use Rattle.sil_format.proofs.cutting.number_in.Goals.{then-not-is_blank+else-value-high, else-not-is_blank}

@@ -1,5 +1,5 @@
 use Rattle.std.proofs.Common.{◌≡◌, ◌≤◌, take}
-use Rattle.sil_format.specs.Grammar.{value_of}
+use Rattle.sil_format.specs.FormatGrammar.{value_of}
 use Rattle.sil_format.proofs.cutting.number_in.Given as goal
 
 abbrev pub invariant-loop-byte : goal.invariant-loop-byte

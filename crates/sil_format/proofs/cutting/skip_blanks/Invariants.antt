@@ -1,5 +1,5 @@
 use Rattle.std.proofs.Common.{◌≡◌, ◌≤◌, length}
-use Rattle.sil_format.specs.Reading.{skip_blanks}
+use Rattle.sil_format.specs.FormatReading.{skip_blanks}
 use Rattle.sil_format.proofs.cutting.skip_blanks.Given as goal
 
 abbrev pub invariant-loop-more : goal.invariant-loop-more

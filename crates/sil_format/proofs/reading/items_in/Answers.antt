@@ -2,7 +2,7 @@ use Rattle.std.proofs.Common.{ℕ, ◌-◌, ◌<◌, ◌≤◌, List, length, Op
 use Rattle.std.specs.Prelude.{IfSome}
 use Rattle.std.specs.Option.{option_map}
 use Rattle.std.proofs.lemmas.Result.{err_from_is_err_and}
-use Rattle.sil_format.specs.Reading.{items_in, read_on}
+use Rattle.sil_format.specs.FormatReading.{items_in, read_on}
 use Rattle.sil_format.proofs.ReadLemmas.{after, after-push, next_item}
 use Rattle.sil_format.proofs.reading.items_in.Goals as goal
 

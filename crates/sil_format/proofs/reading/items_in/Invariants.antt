@@ -1,7 +1,7 @@
 use Rattle.std.proofs.Common.{◌≡◌, ℕ, suc, ◌<◌, length}
 use Rattle.std.specs.Prelude.{IfSome}
 use Rattle.std.specs.Option.{option_map, option_map_or}
-use Rattle.sil_format.specs.Reading.{items_in, read_on}
+use Rattle.sil_format.specs.FormatReading.{items_in, read_on}
 use Rattle.sil_format.proofs.ReadLemmas.{after}
 use Rattle.sil_format.proofs.reading.items_in.Given as goal
 

@@ -1,5 +1,5 @@
 use Rattle.std.proofs.Common.{ℕ, List, subst}
-use Rattle.sil_format.specs.Reading.{Answers, opened}
+use Rattle.sil_format.specs.FormatReading.{Answers, opened}
 use Rattle.sil_format.proofs.Exact.{ok_spelled, bad_unspelled}
 use Rattle.sil_format.proofs.reading.read_format.Goals as goal
 

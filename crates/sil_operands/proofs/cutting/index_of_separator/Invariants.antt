@@ -1,5 +1,5 @@
 use Rattle.std.proofs.Common.{◌≡◌, take, drop}
-use Rattle.sil_operands.specs.Reading.{operand_parts}
+use Rattle.sil_operands.specs.OperandReading.{operand_parts}
 use Rattle.sil_operands.specs.declared.cutting.Place.TheVariants.{Outside}
 use Rattle.sil_operands.proofs.Cuts.{before_first_part}
 use Rattle.sil_operands.proofs.cutting.index_of_separator.Given as goal

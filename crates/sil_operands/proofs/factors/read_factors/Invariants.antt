@@ -1,6 +1,6 @@
 use Rattle.std.proofs.Common.{◌≡◌, length}
 use Rattle.sil_operands.specs.Limits.{card_limits}
-use Rattle.sil_operands.specs.Reading.{each, parts_at, factor_in}
+use Rattle.sil_operands.specs.OperandReading.{each, parts_at, factor_in}
 use Rattle.sil_operands.proofs.Each.{after}
 use Rattle.sil_operands.proofs.factors.read_factors.Given as goal
 

@@ -1,6 +1,6 @@
 use Rattle.std.proofs.Common.{◌≡◌, length}
 use Rattle.sil_operands.specs.Limits.{card_limits}
-use Rattle.sil_operands.specs.Reading.{each, operand_parts, operand_in}
+use Rattle.sil_operands.specs.OperandReading.{each, operand_parts, operand_in}
 use Rattle.sil_operands.specs.declared.cutting.Place.TheVariants.{Outside}
 use Rattle.sil_operands.proofs.Each.{after}
 use Rattle.sil_operands.proofs.reading.read_each_operand.Given as goal

@@ -1,6 +1,6 @@
 use Rattle.std.proofs.Common.{ℕ, List, subst}
 use Rattle.sil_operands.specs.Limits.{card_limits}
-use Rattle.sil_operands.specs.Reading.{Answers, each, operand_in, operand_parts}
+use Rattle.sil_operands.specs.OperandReading.{Answers, each, operand_in, operand_parts}
 use Rattle.sil_operands.specs.declared.cutting.Place.TheVariants.{Outside}
 use Rattle.sil_operands.proofs.Exact.{ok_spelled, bad_unspelled}
 use Rattle.sil_operands.proofs.reading.read_operands.Goals as goal

@@ -1,5 +1,5 @@
 use Rattle.std.proofs.Common.{◌≡◌, false, drop}
-use Rattle.sil_operands.specs.Reading.{text_in}
+use Rattle.sil_operands.specs.OperandReading.{text_in}
 use Rattle.sil_operands.proofs.Each.{after}
 use Rattle.sil_operands.proofs.texts.read_text.Given as goal
 

@@ -1,7 +1,7 @@
 use Rattle.std.proofs.Common.{◌≡◌, ◌++◌, drop}
-use Rattle.sil_symbols.specs.Rules.{faults_from}
-use Rattle.sil_shapes.specs.Rules.{statement_rule}
-use Rattle.sil_shapes.specs.Held.{measure_in}
+use Rattle.sil_symbols.specs.SymbolRules.{faults_from}
+use Rattle.sil_shapes.specs.ShapeRules.{statement_rule}
+use Rattle.sil_shapes.specs.HeldSources.{measure_in}
 use Rattle.sil_shapes.proofs.faults.statement_faults.Given as goal
 
 abbrev pub invariant-loop-statement : goal.invariant-loop-statement

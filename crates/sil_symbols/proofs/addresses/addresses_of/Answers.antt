@@ -1,6 +1,6 @@
 use Rattle.std.proofs.Common.{arith}
 use Rattle.sil_symbols.specs.Addresses.{first_spot}
-use Rattle.sil_symbols.specs.Held.{names_in}
+use Rattle.sil_symbols.specs.HeldNames.{names_in}
 use Rattle.sil_symbols.proofs.Spots.{addresses_from-more, spot_after-more}
 use Rattle.sil_symbols.proofs.addresses.addresses_of.Goals as goal
 

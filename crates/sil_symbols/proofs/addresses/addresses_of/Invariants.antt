@@ -1,6 +1,6 @@
 use Rattle.std.proofs.Common.{◌≡◌, take}
 use Rattle.sil_symbols.specs.Addresses.{addresses_from, spot_after, first_spot}
-use Rattle.sil_symbols.specs.Held.{names_in, capped}
+use Rattle.sil_symbols.specs.HeldNames.{names_in, capped}
 use Rattle.sil_symbols.proofs.addresses.addresses_of.Given as goal
 
 abbrev pub invariant-loop-statement : goal.invariant-loop-statement

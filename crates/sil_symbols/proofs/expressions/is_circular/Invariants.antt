@@ -1,7 +1,7 @@
 use Rattle.std.proofs.Common.{◌≡◌, drop}
 use Rattle.std.specs.List.{list_any}
 use Rattle.sil_symbols.specs.Expressions.{factor_names, is_circular}
-use Rattle.sil_symbols.specs.Held.{names_in}
+use Rattle.sil_symbols.specs.HeldNames.{names_in}
 use Rattle.sil_symbols.proofs.expressions.is_circular.Given as goal
 
 abbrev pub invariant-loop-term : goal.invariant-loop-term

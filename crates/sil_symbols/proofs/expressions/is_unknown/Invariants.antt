@@ -1,7 +1,7 @@
 use Rattle.std.proofs.Common.{◌≡◌, drop, is_none}
 use Rattle.std.specs.List.{list_any}
 use Rattle.sil_symbols.specs.Expressions.{factor_names}
-use Rattle.sil_symbols.specs.Held.{origin_in}
+use Rattle.sil_symbols.specs.HeldNames.{origin_in}
 use Rattle.sil_symbols.proofs.expressions.is_unknown.Given as goal
 
 abbrev pub invariant-loop-term : goal.invariant-loop-term

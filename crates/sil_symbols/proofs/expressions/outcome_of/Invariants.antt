@@ -1,7 +1,7 @@
 use Rattle.std.proofs.Common.{◌≡◌, drop, pos}
 use Rattle.sil_symbols.specs.declared.outcome.Outcome.TheVariants.{Value}
 use Rattle.sil_symbols.specs.Expressions.{total}
-use Rattle.sil_symbols.specs.Held.{names_in}
+use Rattle.sil_symbols.specs.HeldNames.{names_in}
 use Rattle.sil_symbols.proofs.expressions.outcome_of.Given as goal
 
 abbrev pub invariant-loop-term : goal.invariant-loop-term

@@ -1,6 +1,6 @@
 use Rattle.std.proofs.Common.{arith}
-use Rattle.sil_symbols.specs.Rules.{name_rule}
-use Rattle.sil_symbols.specs.Held.{parameter_in, label_in}
+use Rattle.sil_symbols.specs.SymbolRules.{name_rule}
+use Rattle.sil_symbols.specs.HeldNames.{parameter_in, label_in}
 use Rattle.sil_symbols.proofs.RuleLemmas.{faults_more}
 use Rattle.sil_symbols.proofs.faults.name_faults.Goals as goal
 

@@ -1,6 +1,6 @@
 use Rattle.std.proofs.Common.{◌≡◌, ◌++◌, drop}
-use Rattle.sil_symbols.specs.Rules.{name_rule, faults_from}
-use Rattle.sil_symbols.specs.Held.{parameter_in, label_in}
+use Rattle.sil_symbols.specs.SymbolRules.{name_rule, faults_from}
+use Rattle.sil_symbols.specs.HeldNames.{parameter_in, label_in}
 use Rattle.sil_symbols.proofs.faults.name_faults.Given as goal
 
 abbrev pub invariant-loop-place : goal.invariant-loop-place

@@ -1,6 +1,6 @@
 use Rattle.std.proofs.Common.{arith}
-use Rattle.sil_symbols.specs.Rules.{value_rule}
-use Rattle.sil_symbols.specs.Held.{names_in}
+use Rattle.sil_symbols.specs.SymbolRules.{value_rule}
+use Rattle.sil_symbols.specs.HeldNames.{names_in}
 use Rattle.sil_symbols.proofs.RuleLemmas.{faults_more}
 use Rattle.sil_symbols.proofs.faults.value_faults.Goals as goal
 

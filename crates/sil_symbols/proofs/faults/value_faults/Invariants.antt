@@ -1,6 +1,6 @@
 use Rattle.std.proofs.Common.{◌≡◌, ◌++◌, drop}
-use Rattle.sil_symbols.specs.Rules.{value_rule, faults_from}
-use Rattle.sil_symbols.specs.Held.{names_in}
+use Rattle.sil_symbols.specs.SymbolRules.{value_rule, faults_from}
+use Rattle.sil_symbols.specs.HeldNames.{names_in}
 use Rattle.sil_symbols.proofs.faults.value_faults.Given as goal
 
 abbrev pub invariant-loop-statement : goal.invariant-loop-statement

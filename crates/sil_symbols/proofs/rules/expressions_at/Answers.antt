@@ -1,6 +1,6 @@
 use Rattle.std.proofs.Common.{arith, sym, ap, ◌∙◌, ◌++◌, drop, ◌+◌}
-use Rattle.sil_symbols.specs.Rules.{expressions_at}
-use Rattle.sil_symbols.specs.Held.{terms_of}
+use Rattle.sil_symbols.specs.SymbolRules.{expressions_at}
+use Rattle.sil_symbols.specs.HeldNames.{terms_of}
 use Rattle.sil_symbols.proofs.RuleLemmas.{expressions_more, expressions_skip}
 use Rattle.sil_symbols.proofs.rules.expressions_at.Goals as goal
 use Rattle.sil_symbols.proofs.rules.expressions_at.Goals.{then-not-is_apart_at+in_ok-push_expressions, else-not-is_apart_at}

@@ -1,6 +1,6 @@
 use Rattle.std.proofs.Common.{◌≡◌, ◌++◌, drop}
-use Rattle.sil_symbols.specs.Rules.{expressions_at}
-use Rattle.sil_symbols.specs.Held.{terms_of}
+use Rattle.sil_symbols.specs.SymbolRules.{expressions_at}
+use Rattle.sil_symbols.specs.HeldNames.{terms_of}
 use Rattle.sil_symbols.proofs.rules.expressions_at.Given as goal
 
 abbrev pub invariant-loop-i : goal.invariant-loop-i

@@ -1,6 +1,6 @@
 use Rattle.std.proofs.Common.{◌≡◌, ◌++◌, drop}
-use Rattle.sil_symbols.specs.Rules.{items_in}
-use Rattle.sil_symbols.specs.Held.{terms_of}
+use Rattle.sil_symbols.specs.SymbolRules.{items_in}
+use Rattle.sil_symbols.specs.HeldNames.{terms_of}
 use Rattle.sil_symbols.proofs.rules.push_items.Given as goal
 
 abbrev pub invariant-loop-item : goal.invariant-loop-item

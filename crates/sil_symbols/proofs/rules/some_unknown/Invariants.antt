@@ -1,7 +1,7 @@
 use Rattle.std.proofs.Common.{◌≡◌, drop, is_none}
 use Rattle.std.specs.List.{list_any}
 use Rattle.sil_symbols.specs.Expressions.{some_name}
-use Rattle.sil_symbols.specs.Held.{terms_of, origin_in}
+use Rattle.sil_symbols.specs.HeldNames.{terms_of, origin_in}
 use Rattle.sil_symbols.proofs.rules.some_unknown.Given as goal
 
 abbrev pub invariant-loop-terms : goal.invariant-loop-terms

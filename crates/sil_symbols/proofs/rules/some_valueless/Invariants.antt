@@ -1,8 +1,8 @@
 use Rattle.std.proofs.Common.{◌≡◌, drop}
 use Rattle.std.specs.List.{list_any}
 use Rattle.sil_symbols.specs.Expressions.{outcome_of}
-use Rattle.sil_symbols.specs.Rules.{is_no_value}
-use Rattle.sil_symbols.specs.Held.{terms_of, names_in}
+use Rattle.sil_symbols.specs.SymbolRules.{is_no_value}
+use Rattle.sil_symbols.specs.HeldNames.{terms_of, names_in}
 use Rattle.sil_symbols.proofs.rules.some_valueless.Given as goal
 
 abbrev pub invariant-loop-terms : goal.invariant-loop-terms

@@ -1,5 +1,5 @@
 use Rattle.std.proofs.Common.{◌≡◌, ◌++◌, drop, map}
-use Rattle.sil_symbols.specs.Values.{meanings, first_outcome}
+use Rattle.sil_symbols.specs.NameValues.{meanings, first_outcome}
 use Rattle.sil_symbols.proofs.settling.first_outcomes.Given as goal
 
 abbrev pub invariant-loop-place : goal.invariant-loop-place

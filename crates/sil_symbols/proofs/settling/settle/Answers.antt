@@ -1,6 +1,6 @@
 use Rattle.std.proofs.Common.{◌≡◌, length, arith, subst, sym, ap, ◌∙◌}
-use Rattle.sil_symbols.specs.Values.{meanings}
-use Rattle.sil_symbols.specs.Held.{names_in, AreSettling}
+use Rattle.sil_symbols.specs.NameValues.{meanings}
+use Rattle.sil_symbols.specs.HeldNames.{names_in, AreSettling}
 use Rattle.sil_symbols.proofs.Lists.{written_back}
 use Rattle.sil_symbols.proofs.Rounds.{first_settling, settled_all}
 use Rattle.sil_symbols.proofs.settling.settle.Goals as goal

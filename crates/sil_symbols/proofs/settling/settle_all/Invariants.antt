@@ -1,6 +1,6 @@
 use Rattle.std.proofs.Common.{◌-◌, List, length}
-use Rattle.sil_symbols.specs.Values.{Meaning}
-use Rattle.sil_symbols.specs.Held.{settled_count, AreSettling}
+use Rattle.sil_symbols.specs.NameValues.{Meaning}
+use Rattle.sil_symbols.specs.HeldNames.{settled_count, AreSettling}
 use Rattle.sil_symbols.proofs.settling.settle_all.Given as goal
 
 abbrev pub invariant-loop : goal.invariant-loop

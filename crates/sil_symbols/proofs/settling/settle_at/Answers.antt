@@ -1,7 +1,7 @@
 use Rattle.std.proofs.Common.{◌≡◌, ◌<◌, arith, sym, ap, subst, ◌∙◌, true, false, length, get_or, Some, set}
 use Rattle.std.specs.Option.{option_copied}
 use Rattle.sil_symbols.specs.Expressions.{is_circular}
-use Rattle.sil_symbols.specs.Held.{names_in, equation_of, AreSettling}
+use Rattle.sil_symbols.specs.HeldNames.{names_in, equation_of, AreSettling}
 use Rattle.sil_symbols.specs.declared.outcome.Outcome.TheVariants.{NoValue}
 use Rattle.sil_symbols.proofs.Agreement.{outcome_of-known}
 use Rattle.sil_symbols.proofs.Rounds.{settling_now, quiet_circle, settled_count-set}

@@ -1,5 +1,5 @@
 use Rattle.std.proofs.Common.{ap, sym, subst, ◌∙◌, arith, true≢false, below_more}
-use Rattle.sil_symbols.specs.Held.{settled_count, IsQuiet}
+use Rattle.sil_symbols.specs.HeldNames.{settled_count, IsQuiet}
 use Rattle.sil_symbols.proofs.settling.settle_each.Goals as goal
 use Rattle.sil_symbols.proofs.settling.settle_each.Goals.{then-settle_at, else-settle_at}
 

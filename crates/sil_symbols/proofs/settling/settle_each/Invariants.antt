@@ -1,6 +1,6 @@
 use Rattle.std.proofs.Common.{◌≡◌, ℕ, ◌<◌, ◌≤◌, List, true, false}
-use Rattle.sil_symbols.specs.Values.{Meaning}
-use Rattle.sil_symbols.specs.Held.{settled_count, AreSettling, IsQuiet}
+use Rattle.sil_symbols.specs.NameValues.{Meaning}
+use Rattle.sil_symbols.specs.HeldNames.{settled_count, AreSettling, IsQuiet}
 use Rattle.sil_symbols.proofs.settling.settle_each.Given as goal
 
 abbrev pub invariant-loop-place : goal.invariant-loop-place

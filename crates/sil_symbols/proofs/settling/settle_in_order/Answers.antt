@@ -1,5 +1,5 @@
 use Rattle.std.proofs.Common.{sym, subst}
-use Rattle.sil_symbols.specs.Held.{AreSettling}
+use Rattle.sil_symbols.specs.HeldNames.{AreSettling}
 use Rattle.sil_symbols.proofs.settling.settle_in_order.Goals as goal
 use Rattle.sil_symbols.proofs.settling.settle_in_order.Goals.{then-place-statements, else-place-statements}
 

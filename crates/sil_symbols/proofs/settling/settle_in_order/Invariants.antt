@@ -1,6 +1,6 @@
 use Rattle.std.proofs.Common.{List}
-use Rattle.sil_symbols.specs.Values.{Meaning}
-use Rattle.sil_symbols.specs.Held.{AreSettling}
+use Rattle.sil_symbols.specs.NameValues.{Meaning}
+use Rattle.sil_symbols.specs.HeldNames.{AreSettling}
 use Rattle.sil_symbols.proofs.settling.settle_in_order.Given as goal
 
 abbrev pub invariant-loop-place : goal.invariant-loop-place

@@ -1,5 +1,5 @@
 use Rattle.std.proofs.Common.{◌≡◌, map, take}
-use Rattle.sil_symbols.specs.Parts.{part_of, is_format}
+use Rattle.sil_symbols.specs.StatementParts.{part_of, is_format}
 use Rattle.sil_symbols.proofs.symbols.formats_of.Given as goal
 
 abbrev pub invariant-loop-statement : goal.invariant-loop-statement

@@ -1,6 +1,6 @@
 use Rattle.std.proofs.Common.{◌≡◌, ap, ◌∙◌}
 use Rattle.sil_symbols.specs.Symbols.{size_names, extent}
-use Rattle.sil_symbols.specs.Held.{names_in}
+use Rattle.sil_symbols.specs.HeldNames.{names_in}
 use Rattle.sil_symbols.proofs.SymbolLemmas.{length_addresses, sizes_are, outcomes_are, extent_is}
 use Rattle.sil_symbols.proofs.symbols.outcomes_of.Goals as goal
 

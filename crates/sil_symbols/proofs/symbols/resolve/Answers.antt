@@ -1,5 +1,5 @@
 use Rattle.std.proofs.Common.{◌≡◌, ◌≢◌, [], sym, ◌∙◌}
-use Rattle.sil_symbols.specs.Rules.{name_faults, value_faults}
+use Rattle.sil_symbols.specs.SymbolRules.{name_faults, value_faults}
 use Rattle.sil_symbols.proofs.SymbolLemmas.{same_name_faults, same_value_faults, none_empty, some_not_empty, first_are_names, first_are_values, within_limits, resolves}
 use Rattle.sil_symbols.proofs.symbols.resolve.Goals as goal
 

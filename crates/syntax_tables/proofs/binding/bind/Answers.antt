@@ -2,7 +2,7 @@ use Rattle.std.proofs.Common.{ℕ, ◌+◌, ◌≤◌, ◌∙◌, ap, sym, subst
 use Rattle.std.specs.List.{All}
 use Rattle.sil_model.specs.WellFormed.{IsTable}
 use Rattle.sil_symbols.specs.Resolved.{expression_value}
-use Rattle.syntax_tables.specs.Files.{names_in}
+use Rattle.syntax_tables.specs.TableFiles.{names_in}
 use Rattle.syntax_tables.specs.Tables.{faults_of, tables_of}
 use Rattle.syntax_tables.proofs.Counts.{tables_count, few_names}
 use Rattle.syntax_tables.proofs.binding.bind.Goals as goal

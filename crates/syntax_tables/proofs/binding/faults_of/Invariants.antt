@@ -1,6 +1,6 @@
 use Rattle.std.proofs.Common.{◌≡◌, ◌≤◌, ◌++◌, drop}
 use Rattle.sil_symbols.specs.Resolved.{expression_value}
-use Rattle.syntax_tables.specs.Files.{names_in}
+use Rattle.syntax_tables.specs.TableFiles.{names_in}
 use Rattle.syntax_tables.specs.Tables.{faults_from}
 use Rattle.syntax_tables.proofs.binding.faults_of.Given as goal
 

@@ -1,6 +1,6 @@
 use Rattle.std.proofs.Common.{Some, None, sym, ◌∙◌}
 use Rattle.sil_base.specs.Names.{is_word}
-use Rattle.syntax_tables.specs.Files.{names_in}
+use Rattle.syntax_tables.specs.TableFiles.{names_in}
 use Rattle.syntax_tables.proofs.NumberLemmas.{before}
 use Rattle.syntax_tables.proofs.binding.is_before.Goals as goal
 

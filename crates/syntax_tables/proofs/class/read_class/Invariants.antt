@@ -1,6 +1,6 @@
 use Rattle.std.proofs.Common.{◌≡◌, length}
-use Rattle.sil_operands.specs.Reading.{each}
-use Rattle.syntax_tables.specs.Texts.{items_of}
+use Rattle.sil_operands.specs.OperandReading.{each}
+use Rattle.syntax_tables.specs.TableTexts.{items_of}
 use Rattle.syntax_tables.specs.Sayings.{item_in}
 use Rattle.syntax_tables.proofs.Lists.{after}
 use Rattle.syntax_tables.proofs.class.read_class.Given as goal

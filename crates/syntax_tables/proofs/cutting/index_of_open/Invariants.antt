@@ -1,5 +1,5 @@
 use Rattle.std.proofs.Common.{◌≡◌, false, take, drop}
-use Rattle.syntax_tables.specs.Texts.{open_parts}
+use Rattle.syntax_tables.specs.TableTexts.{open_parts}
 use Rattle.syntax_tables.proofs.Cuts.{before_first_part}
 use Rattle.syntax_tables.proofs.cutting.index_of_open.Given as goal
 

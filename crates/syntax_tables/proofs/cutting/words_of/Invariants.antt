@@ -1,6 +1,6 @@
 use Rattle.std.proofs.Common.{◌≡◌, ◌++◌, length}
 use Rattle.sil_base.specs.Names.{texts_of}
-use Rattle.syntax_tables.specs.Texts.{words_of}
+use Rattle.syntax_tables.specs.TableTexts.{words_of}
 use Rattle.syntax_tables.proofs.cutting.words_of.Given as goal
 
 abbrev pub invariant-loop-word : goal.invariant-loop-word

@@ -1,5 +1,5 @@
 use Rattle.std.proofs.Common.{arith, sym}
-use Rattle.syntax_tables.specs.Files.{written_of, lines_of, reading}
+use Rattle.syntax_tables.specs.TableFiles.{written_of, lines_of, reading}
 use Rattle.syntax_tables.specs.declared.place.Place.TheVariants.{Between}
 use Rattle.syntax_tables.proofs.Readings.{after-none}
 use Rattle.syntax_tables.proofs.reading.read_tables.Goals as goal

@@ -1,5 +1,5 @@
 use Rattle.std.proofs.Common.{◌≡◌, ◌+◌, ◌≤◌, length}
-use Rattle.syntax_tables.specs.Files.{written_of, lines_of}
+use Rattle.syntax_tables.specs.TableFiles.{written_of, lines_of}
 use Rattle.syntax_tables.specs.Going.{going_on}
 use Rattle.syntax_tables.proofs.reading.read_tables.Given as goal
 

@@ -4,7 +4,7 @@ use Rattle.std.proofs.lemmas.List.FromFn.{length-map-range_with_len}
 use Rattle.sil_model.specs.declared.table.Action.TheVariants.{Error}
 use Rattle.sil_model.specs.WellFormed.{IsEntry}
 use Rattle.sil_symbols.specs.Resolved.{expression_value}
-use Rattle.syntax_tables.specs.Files.{names_in}
+use Rattle.syntax_tables.specs.TableFiles.{names_in}
 use Rattle.syntax_tables.specs.Tables.{entry_of, entry_at, table_of}
 use Rattle.syntax_tables.proofs.Filled.{filled_more, filled_whole}
 use Rattle.syntax_tables.proofs.tables.table_of.Goals as goal

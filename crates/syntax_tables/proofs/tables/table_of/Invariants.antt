@@ -3,7 +3,7 @@ use Rattle.std.specs.List.{All, range_with_len}
 use Rattle.sil_model.specs.declared.table.Action.TheVariants.{Error}
 use Rattle.sil_model.specs.WellFormed.{IsEntry}
 use Rattle.sil_symbols.specs.Resolved.{expression_value}
-use Rattle.syntax_tables.specs.Files.{names_in}
+use Rattle.syntax_tables.specs.TableFiles.{names_in}
 use Rattle.syntax_tables.specs.Tables.{entry_at}
 use Rattle.syntax_tables.proofs.tables.table_of.Given as goal
 

@@ -2,7 +2,7 @@ use Rattle.std.proofs.Common.{◌≡◌, ◌++◌, drop, length}
 use Rattle.std.specs.List.{All}
 use Rattle.sil_model.specs.WellFormed.{IsTable}
 use Rattle.sil_symbols.specs.Resolved.{expression_value}
-use Rattle.syntax_tables.specs.Files.{names_in}
+use Rattle.syntax_tables.specs.TableFiles.{names_in}
 use Rattle.syntax_tables.specs.Tables.{tables_in}
 use Rattle.syntax_tables.proofs.tables.tables_of.Given as goal
 

@@ -1,7 +1,7 @@
 use Rattle.std.proofs.Common.{◌∙◌, sym, subst, refl, ap, lit<, ◌≡◌, ◌≤◌, ℕ, [], None, arith}
 use Rattle.layout_params.specs.Parameters.{Settings, Parameters, AreLegal, AreLegalSettings, IsUnitNumber}
 use Rattle.layout_params.specs.Entries.{line_named}
-use Rattle.layout_params.specs.Held.{drafted}
+use Rattle.layout_params.specs.HeldEntries.{drafted}
 use Rattle.layout_params.proofs.LegalLemmas.{faultless_legal, legal_faultless}
 use Rattle.layout_params.proofs.settings.Settings.new.Goals as goal
 

@@ -1,6 +1,6 @@
 use Rattle.std.proofs.Common.{rules, ◌<◌, ◌^◌, ◌∙◌, Some, slice_index_or, ap, sym, w64}
 use Rattle.std.proofs.lemmas.Int.{to_z_pos}
-use Rattle.layout_params.specs.Symbols.{symbol_in}
+use Rattle.layout_params.specs.ParameterSymbols.{symbol_in}
 use Rattle.layout_params.proofs.SymbolLemmas.{symbol_here}
 use Rattle.layout_params.proofs.symbols.ParamSymbols.value.Goals as goal
 

@@ -1,5 +1,5 @@
 use Rattle.std.proofs.Common.{◌≡◌, ◌-◌}
-use Rattle.rv_emulate.specs.View.{code_run, state_of}
+use Rattle.rv_emulate.specs.CpuView.{code_run, state_of}
 use Rattle.rv_emulate.proofs.hart.Hart.run.Given as goal
 
 abbrev pub invariant-loop-turn : goal.invariant-loop-turn

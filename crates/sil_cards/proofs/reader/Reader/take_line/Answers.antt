@@ -1,7 +1,7 @@
 use Rattle.std.proofs.Common.{◌≡◌, length, ap, sym, ◌∙◌}
 use Rattle.sil_base.specs.Lines.{without_end}
 use Rattle.sil_cards.specs.Readings.{is_full}
-use Rattle.sil_cards.specs.Verdicts.{is_end, verdict}
+use Rattle.sil_cards.specs.CardVerdicts.{is_end, verdict}
 use Rattle.sil_cards.proofs.CardLemmas.{Gives, ends_line, goes_line, goes_either, taken_within}
 use Rattle.sil_cards.proofs.ReadLemmas.{step_copies}
 use Rattle.sil_cards.proofs.reader.Reader.take_line.Goals as goal

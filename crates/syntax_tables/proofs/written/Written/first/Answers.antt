@@ -1,7 +1,7 @@
 use Rattle.std.proofs.Common.{◌≡◌, ◌∙◌, ap}
 use Rattle.std.specs.Prelude.{position}
 use Rattle.sil_base.specs.Names.{is_word}
-use Rattle.syntax_tables.specs.Files.{names_in}
+use Rattle.syntax_tables.specs.TableFiles.{names_in}
 use Rattle.syntax_tables.proofs.NumberLemmas.{place_within}
 use Rattle.syntax_tables.proofs.written.Written.first.Goals as goal
 
