@@ -2,7 +2,8 @@
 use Rattle.std.proofs.Common.{◌≡◌, ℕ, suc, ◌/◌, ◌≤◌, ◌<◌, ◌^◌, ◌&&◌, All, List, length, map, take, drop, get_or, ap, arith, length-drop}
 use Rattle.std.proofs.lemmas.List.{get_or-map, length-map}
 use Rattle.sil_macros.specs.declared.names.Macro.{Macro}
-use Rattle.image_file.specs.Image.{entry_fits, entries_fit, entry_of}
+use Rattle.image_file.specs.Image.{entry_of}
+use Rattle.image_file.specs.TableEntries.{entry_fits, entries_fit}
 
 -- the first entry, and the others
 pub entries_in_turn : (tables : ℕ) (bytes : List ℕ) → 16 ≤ length bytes → entries_fit tables (length bytes / 16) bytes ≡ (entry_fits tables (take 16 bytes) && entries_fit tables (length (drop 16 bytes) / 16) (drop 16 bytes))

@@ -1,11 +1,11 @@
 -- Images: what a program is installed as.
 use Rattle.std.specs.Prelude.{◌≡◌, ℕ, zero, suc, ◌+◌, ◌*◌, ◌/◌, ◌%◌, ◌^◌, ◌<◌, ◌≤◌, List, [], ◌∷◌, length, map, take, drop, All, Bool, true, ◌&&◌, ◌==◌, nat_lt, nat_le, if◌then◌else◌, IsTrue, slice_index}
-use Rattle.sil_base.specs.Bytes.{number, piece}
 use Rattle.sil_base.specs.declared.limits.TheConstants.{MAX_CELLS, MAX_CONSTANT_BYTES, MAX_STATEMENTS, MAX_TABLES, MAX_WORDS, TABLE_BYTES}
 use Rattle.sil_base.specs.declared.places.TheConstants.{FIRST_WORD}
 use Rattle.layout_params.specs.Parameters.{Settings, AreLegalSettings}
 use Rattle.sil_macros.specs.declared.names.Macro.{Macro}
 use Rattle.layout_params.specs.Areas.{all_cells}
+use Rattle.image_file.specs.TableEntries.{entries_fit}
 
 -- where a statement's code begins, the number of its card, and its macro
 pub record StatementEntry : Type 0 where
@@ -47,18 +47,6 @@ table_count i = length i.tables / TABLE_BYTES
 abbrev pub places_rise : ℕ → ℕ → List StatementEntry → Bool
 places_rise least end [] = true
 places_rise least end (e ∷ es) = nat_le least e.place && (e.place % 4 == 0) && nat_lt e.place end && places_rise (e.place + 1) end es
-
--- the sixteen bytes of a table entry: the action from 0 to 4, whether there is a PUT, the next table for GOTO and else 0, four zeros, and the PUT, 0 where there is none
-abbrev pub entry_fits : ℕ → List ℕ → Bool
-entry_fits tables entry =
-    let action = slice_index entry 0 in
-    let next = number (piece 2 2 entry) in
-    nat_le action 4 && nat_le (slice_index entry 1) 1 && (if action == 1 then nat_lt next tables else next == 0) && (number (piece 4 4 entry) == 0) && (if slice_index entry 1 == 0 then number (piece 8 8 entry) == 0 else true)
-
--- n entries, one after another
-abbrev pub entries_fit : ℕ → ℕ → List ℕ → Bool
-entries_fit tables zero bytes = true
-entries_fit tables (suc n) bytes = entry_fits tables (take 16 bytes) && entries_fit tables n (drop 16 bytes)
 
 -- what an image keeps to
 pub record IsImage (i : Image) : Type 0 where

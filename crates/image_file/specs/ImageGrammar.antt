@@ -8,7 +8,8 @@ use Rattle.layout_params.specs.Areas.{all_cells}
 use Rattle.image_file.specs.declared.stop.ImageStop.{ImageStop}
 use Rattle.image_file.specs.declared.stop.ImageStop.TheVariants as stop
 use Rattle.image_file.specs.declared.counts.Counts.{Counts}
-use Rattle.image_file.specs.Image.{Image, places_rise, entries_fit}
+use Rattle.image_file.specs.TableEntries.{entries_fit}
+use Rattle.image_file.specs.Image.{Image, places_rise}
 use Rattle.image_file.specs.Spelling.{FitAll, counts_list, counts_of, mark_part, version_part, settings_part, counts_part, entry_part, numbers_in}
 use Rattle.image_file.specs.Version.{kinds_part}
 

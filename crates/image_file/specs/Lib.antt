@@ -1,4 +1,5 @@
 pub mod ImageGrammar
+pub mod TableEntries
 pub mod Image
 pub mod ImageReading
 pub mod Spelling

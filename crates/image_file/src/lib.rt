@@ -12,6 +12,7 @@ mod numbers;
 mod reading;
 mod rules;
 mod stop;
+mod table_entries;
 mod version;
 mod writing;
 
@@ -19,4 +20,5 @@ pub use image::Image;
 pub use laws::{law_of_first_parts, law_of_spellings};
 pub use reading::load_image;
 pub use stop::ImageStop;
+pub use table_entries::table_entry;
 pub use writing::write_image;

@@ -1,10 +1,10 @@
 // The rules of an image's parts.
 ghost use Rattle.std.specs.Prelude.{◌≡◌, ◌+◌, ◌*◌, ◌/◌, ◌%◌, ◌^◌, ◌<◌, ◌≤◌, All, ◌↔◌, IsTrue, length, map, take};
-ghost use Rattle.sil_base.specs.Bytes.{number};
 ghost use Rattle.layout_params.specs.Areas.{all_cells};
-ghost use Rattle.image_file.specs.Image.{places_rise, entry_of, entry_fits, entries_fit};
+ghost use Rattle.image_file.specs.Image.{places_rise, entry_of};
+ghost use Rattle.image_file.specs.TableEntries.{entries_fit};
 
-use crate::numbers::{number_16, number_32, number_64};
+use crate::table_entries::{TABLE_ENTRY_BYTES, entry_fits};
 use layout_params::{Layout, Settings};
 use sil_base::{
     FIRST_WORD, MAX_CELLS, MAX_CONSTANT_BYTES, MAX_STATEMENTS, MAX_TABLES, MAX_WORDS, TABLE_BYTES,
@@ -74,29 +74,11 @@ pub(crate) fn are_tables(tables: &[u8]) -> bool
 {
     let count = tables.len() / TABLE_BYTES;
     let mut rest = tables;
-    while let Some((entry, more)) = rest.split_at_checked(16) {
+    while let Some((entry, more)) = rest.split_at_checked(TABLE_ENTRY_BYTES) {
         if !entry_fits(count, entry) {
             return false;
         }
         rest = more;
     }
     true
-}
-
-/// Whether the sixteen bytes of an entry fit, by the number of tables.
-fn entry_fits(tables: usize, entry: &[u8]) -> bool
-    requires size { length entry.now ≡ 16 }
-    requires count { tables ≤ MAX_TABLES }
-    ensures { result ≡ entry_fits tables entry.now }
-{
-    let next = number_16(&entry[2..4]);
-    entry[0] <= 4
-        && entry[1] <= 1
-        && (if entry[0] == 1 {
-            usize::from(next) < tables
-        } else {
-            next == 0
-        })
-        && number_32(&entry[4..8]) == 0
-        && (entry[1] != 0 || number_64(&entry[8..16]) == 0)
 }

@@ -10,6 +10,7 @@ mod laws;
 mod layout;
 mod lines;
 mod numbers;
+mod ordered;
 mod packing;
 mod params;
 mod reading;

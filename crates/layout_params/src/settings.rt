@@ -5,11 +5,11 @@ ghost use Rattle.layout_params.specs.HeldEntries.{drafted};
 ghost use Rattle.layout_params.specs.Parameters as parameters;
 ghost use Rattle.layout_params.specs.Parameters.{AreLegalSettings, settings_numbers};
 
-use crate::candidate::Candidate;
 use crate::draft::Draft;
 use crate::faults::value_fault;
 use crate::layout::Layout;
 use crate::numbers::Numbers;
+use crate::ordered::{draft_of_numbers, numbers_of};
 use sil_base::{FIRST_CELL, MAX_CELLS};
 use std::marker::Model;
 
@@ -101,23 +101,7 @@ impl Settings {
     pub fn to_numbers(&self) -> [u64; 14]
         ensures { result ≡ settings_numbers self.now }
     {
-        let numbers = &self.numbers;
-        [
-            numbers.descr(),
-            numbers.a_at(),
-            numbers.f_at(),
-            numbers.f_len(),
-            numbers.v_at(),
-            numbers.v_len(),
-            self.function_flag,
-            self.mark_flag,
-            self.pointer_flag,
-            self.string_title_flag,
-            self.title_flag,
-            self.stack_size,
-            self.dynamic_size,
-            self.bucket_count,
-        ]
+        numbers_of(self)
     }
 
     /// The layout of a descriptor.
@@ -207,51 +191,5 @@ impl Settings {
         let size = self.numbers().descr();
         let below = statics as u64 + self.hidden_cells() + self.dynamic_size();
         (FIRST_CELL + below * size - size) as i64
-    }
-}
-
-/// The values of these settings, with numbers of units that are legal.
-fn draft_of_numbers<'a>(numbers: &[u64; 14], date: &'a [u8; 8]) -> Draft<'a>
-    ensures units { ((drafted result).input_unit ≡ 1) × ((drafted result).output_unit ≡ 1) × ((drafted result).punch_unit ≡ 1) }
-    ensures settings { (s : parameters.Settings) → numbers.now ≡ settings_numbers s → date.now ≡ s.date
-        → (drafted result).settings ≡ s }
-{
-    let [
-        descr,
-        a_at,
-        f_at,
-        f_len,
-        v_at,
-        v_len,
-        function_flag,
-        mark_flag,
-        pointer_flag,
-        string_title_flag,
-        title_flag,
-        stack_size,
-        dynamic_size,
-        bucket_count,
-    ] = *numbers;
-    Draft {
-        sizes: Candidate {
-            descr,
-            a_at,
-            f_at,
-            f_len,
-            v_at,
-            v_len,
-        },
-        function_flag,
-        mark_flag,
-        pointer_flag,
-        string_title_flag,
-        title_flag,
-        stack_size,
-        dynamic_size,
-        bucket_count,
-        input_unit: 1,
-        output_unit: 1,
-        punch_unit: 1,
-        date,
     }
 }

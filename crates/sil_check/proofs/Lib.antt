@@ -1,7 +1,6 @@
 pub mod StandardLemmas
-pub mod Made
+pub mod MadeStatements
 pub mod CardLemmas
 pub mod VerdictLemmas
 pub mod ScopeLemmas
-pub mod ArgLemmas
 pub mod ProgramLemmas

@@ -36,13 +36,14 @@ use Rattle.sil_model.specs.Needs.{has_needed}
 use Rattle.sil_format.specs.FormatGrammar.{IsFormat}
 use Rattle.sil_model.specs.WellFormed.{AreSpecials, IsWellFormed}
 use Rattle.syntax_tables.specs.declared.saying.Said.{Said}
-use Rattle.sil_check.specs.Arguments.{is_descriptor, is_descriptor_at, is_static, Scope, scope_of, and_before, args_of}
+use Rattle.sil_arguments.specs.MadeArguments.{Scope, scope_of, and_before, args_of}
+use Rattle.sil_check.specs.StaticPlaces.{is_descriptor, is_descriptor_at, is_static}
 use Rattle.sil_check.specs.Specials.{special_faults, special_rule, specials_in}
 use Rattle.sil_check.specs.Programs.{formats_of, statement_with, machine_statement, machine_statements, program_with, is_static_program, is_static_statement}
 use Rattle.sil_check.specs.Verdicts.{is_assembled, is_built_macro, is_built_statement}
 use Rattle.sil_check.specs.HeldPrograms.{HasFitPlaces, HaveShortLists, IsProgramOf}
-use Rattle.sil_check.proofs.ArgLemmas.{IsFirst, args_fit, both, first_is}
-use Rattle.sil_check.proofs.ScopeLemmas.{IsScope, scope_is}
+use Rattle.sil_arguments.proofs.ArgLemmas.{IsFirst, IsScope, args_fit, both, first_is}
+use Rattle.sil_check.proofs.ScopeLemmas.{scope_is}
 
 -- ---- places
 

@@ -21,16 +21,9 @@ use Rattle.syntax_tables.specs.declared.saying.Said.{Said}
 use Rattle.syntax_tables.specs.TableFiles.{names_in, table_named}
 use Rattle.data_asm.specs.DataFields.{first_text}
 use Rattle.sil_model.specs.Fits.{Bounds}
-use Rattle.sil_check.specs.Arguments.{Scope, scope_of, text_at}
+use Rattle.sil_arguments.specs.MadeArguments.{scope_of, text_at}
+use Rattle.sil_arguments.proofs.ArgLemmas.{IsScope}
 use Rattle.sil_check.specs.Programs.{formats_of}
-
--- what names stand for is within these bounds
-pub record IsScope (b : Bounds) (scope : Scope) : Type 0 where
-  pub values : (terms : List Term) (z : ℤ) → scope.measure.values terms ≡ Some z → FitsSigned w64 z
-  pub locations : (terms : List Term) (k : ℕ) → location_of scope.measure terms ≡ Some k → k < b.statements
-  pub flags : (terms : List Term) (f : ℕ) → flags_of scope.measure terms ≡ Some f → f ≤ b.flag_limit
-  pub tables : (name : List ℕ) (t : ℕ) → scope.tables name ≡ Some t → t < b.tables
-  pub texts : (terms : List Term) (text : List ℕ) → option_and_then scope.texts (format_at scope.measure terms) ≡ Some text → Contains b.formats text
 
 -- ---- locations and flags
 

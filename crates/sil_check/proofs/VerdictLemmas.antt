@@ -6,10 +6,10 @@ use Rattle.layout_params.specs.Parameters.{Parameters}
 use Rattle.sil_symbols.specs.declared.stmt.Stmt.{Stmt}
 use Rattle.data_asm.specs.Cells.{static_cells_of}
 use Rattle.sil_model.specs.declared.program.Program.{Program}
-use Rattle.sil_check.specs.declared.stop.CheckStop.{CheckStop}
-use Rattle.sil_check.specs.declared.stop.CheckStop.TheVariants as stop
+use Rattle.sil_arguments.specs.declared.stop.CheckStop.{CheckStop}
+use Rattle.sil_arguments.specs.declared.stop.CheckStop.TheVariants as stop
 use Rattle.syntax_tables.specs.declared.saying.Said.{Said}
-use Rattle.sil_check.specs.HeldPrograms.{IsUnmade}
+use Rattle.sil_arguments.specs.HeldScopes.{IsUnmade}
 use Rattle.sil_check.specs.Programs.{program_over, program_of, is_static_program}
 use Rattle.sil_check.specs.Verdicts.{is_built_source, if_built, made, verdict_built, IsStopFor}
 

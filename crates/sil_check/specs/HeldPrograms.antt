@@ -1,5 +1,5 @@
--- What the code answers on the way.
-use Rattle.std.specs.Prelude.{◌≡◌, ℕ, ◌≤◌, List, [], length, All, Option, Some, None, true}
+-- Programs that the code makes.
+use Rattle.std.specs.Prelude.{◌≡◌, ℕ, ◌≤◌, List, [], length, All, Some, true}
 use Rattle.std.specs.List.{list_all}
 use Rattle.layout_params.specs.declared.cell.Cell.{Cell}
 use Rattle.layout_params.specs.Parameters.{Parameters, AreLegal}
@@ -7,7 +7,6 @@ use Rattle.layout_params.specs.Sizes.{packed_16}
 use Rattle.sil_operands.specs.Limits.{are_within_limits}
 use Rattle.sil_symbols.specs.declared.stmt.Stmt.{Stmt}
 use Rattle.sil_symbols.specs.Symbols.{extent, IsWithinLimits}
-use Rattle.sil_shapes.specs.HeldSources.{IsResolution}
 use Rattle.sil_model.specs.declared.program.Program.{Program}
 use Rattle.sil_model.specs.declared.program.Specials.{Specials}
 use Rattle.sil_model.specs.Memory.{FitsCell}
@@ -16,27 +15,9 @@ use Rattle.sil_model.specs.WellFormed.{FitsOption, IsTable}
 use Rattle.syntax_tables.specs.declared.saying.Said.{Said}
 use Rattle.syntax_tables.specs.TableFiles.{names_in}
 use Rattle.sil_base.specs.declared.limits.TheConstants.{MAX_TABLES}
-use Rattle.sil_check.specs.declared.bound.BoundSource.{BoundSource}
-use Rattle.sil_check.specs.declared.stop.CheckStop.{CheckStop}
-use Rattle.sil_check.specs.declared.stop.CheckStop.TheVariants as stop
-use Rattle.sil_check.specs.Arguments.{Scope, scope_of}
 use Rattle.sil_check.specs.Programs.{program_over, is_static_program}
 use Rattle.sil_check.specs.Specials.{special_faults}
 use Rattle.sil_check.specs.Verdicts.{is_built_statement}
-
--- a stop where this is made, if anything is: want of memory, or nothing is made
-abbrev pub IsUnmade : {A : Type 0} → Option A → CheckStop → Type 0
-IsUnmade made (stop.Faults faults) = ⊥
-IsUnmade made stop.NotBuilt = made ≡ None
-IsUnmade made stop.Memory = Unit {0}
-
--- the symbols are those of the source
-abbrev pub IsBound : BoundSource → Type 0
-IsBound bound = IsResolution bound.source
-
--- what its names stand for
-abbrev pub scope_in : BoundSource → Scope
-scope_in bound = scope_of bound.source.params.now bound.source.statements.now bound.tables.now
 
 -- each list that is an operand has at most 40 items
 abbrev pub HaveShortLists : List Stmt → Type 0

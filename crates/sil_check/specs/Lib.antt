@@ -1,6 +1,6 @@
 pub mod Statements
 pub mod Standard
-pub mod Arguments
+pub mod StaticPlaces
 pub mod TableFaults
 pub mod Specials
 pub mod Programs

@@ -14,7 +14,8 @@ use Rattle.data_asm.specs.Cells.{static_cells_of}
 use Rattle.sil_model.specs.declared.program.Arg.{Arg}
 use Rattle.sil_model.specs.declared.program.Program.{Program}
 use Rattle.sil_model.specs.declared.program.Statement.{Statement}
-use Rattle.sil_check.specs.Arguments.{Scope, scope_of, args_of, and_before, is_static}
+use Rattle.sil_arguments.specs.MadeArguments.{Scope, scope_of, args_of, and_before}
+use Rattle.sil_check.specs.StaticPlaces.{is_static}
 use Rattle.sil_check.specs.Specials.{specials_in}
 
 abbrev pub statement_with : Stmt → List Arg → Statement

@@ -15,7 +15,7 @@ use Rattle.sil_symbols.specs.Symbols.{value_of}
 use Rattle.syntax_tables.specs.declared.saying.Said.{Said}
 use Rattle.syntax_tables.specs.TableFiles.{names_in, table_named}
 use Rattle.syntax_tables.specs.Tables.{faults_of}
-use Rattle.sil_check.specs.Arguments.{first_of, rest_of}
+use Rattle.sil_arguments.specs.MadeArguments.{first_of, rest_of}
 
 -- an operand in the place of a table is the name of none
 abbrev pub is_astray : (List ℕ → Option ℕ) → Kind → Operand → Bool

@@ -14,13 +14,13 @@ use Rattle.sil_symbols.specs.SymbolRules.{faults_of}
 use Rattle.sil_shapes.specs.ShapeRules.{statement_faults}
 use Rattle.data_asm.specs.DataFaults.{data_faults}
 use Rattle.sil_base.specs.declared.fault_stop.FaultStop.{FaultStop}
-use Rattle.sil_base.specs.declared.fault_stop.FaultStop.TheVariants as below
 use Rattle.syntax_tables.specs.declared.saying.Said.{Said}
 use Rattle.syntax_tables.specs.TableFiles.{written_of}
 use Rattle.sil_model.specs.declared.program.Program.{Program}
 use Rattle.sil_model.specs.Built.{is_built}
-use Rattle.sil_check.specs.declared.stop.CheckStop.{CheckStop}
-use Rattle.sil_check.specs.declared.stop.CheckStop.TheVariants as stop
+use Rattle.sil_arguments.specs.declared.stop.CheckStop.{CheckStop}
+use Rattle.sil_arguments.specs.declared.stop.CheckStop.TheVariants as stop
+use Rattle.sil_arguments.specs.CheckStops.{stop_below}
 use Rattle.sil_check.specs.Specials.{special_faults}
 use Rattle.sil_check.specs.Standard.{is_standard}
 use Rattle.sil_check.specs.Statements.{statements_of}
@@ -42,11 +42,6 @@ is_built_statement s = is_built_macro s.name
 -- a source of such macros alone, for the layout that is installed so far
 abbrev pub is_built_source : Parameters → List Stmt → Bool
 is_built_source p source = list_all is_built_statement source && is_standard p.settings.sizes
-
--- a stop of the crates below
-abbrev pub stop_below : FaultStop → CheckStop
-stop_below (below.Faults faults) = stop.Faults faults
-stop_below below.Memory = stop.Memory
 
 -- the faults that there are; without one, the answer that follows
 abbrev pub unless_faults : List Fault → Result Program CheckStop → Result Program CheckStop

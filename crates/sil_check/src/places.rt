@@ -1,7 +1,7 @@
 // Whether the places that are operands are installed so far.
 ghost use Rattle.std.specs.Prelude.{◌≡◌, ◌<◌, slice_get};
 ghost use Rattle.std.specs.List.{list_all};
-ghost use Rattle.sil_check.specs.Arguments.{is_descriptor, is_descriptor_at, is_static};
+ghost use Rattle.sil_check.specs.StaticPlaces.{is_descriptor, is_descriptor_at, is_static};
 ghost use Rattle.sil_check.specs.Programs.{is_static_program, is_static_statement};
 
 use layout_params::{Cell, Layout, Params};

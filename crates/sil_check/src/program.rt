@@ -5,13 +5,11 @@ ghost use Rattle.sil_symbols.specs.Symbols.{value_of};
 ghost use Rattle.syntax_tables.specs.Tables.{tables_of};
 ghost use Rattle.sil_check.specs.Programs.{formats_of, machine_statement, machine_statements, program_over};
 ghost use Rattle.sil_check.specs.Specials.{specials_in};
-ghost use Rattle.sil_check.specs.HeldPrograms.{IsBound, IsUnmade, scope_in};
+ghost use Rattle.sil_arguments.specs.HeldScopes.{IsBound, IsUnmade, scope_in};
 
-use crate::arguments::args_of;
-use crate::bound::BoundSource;
-use crate::stop::CheckStop;
 use data_asm::first_text;
 use layout_params::Cell;
+use sil_arguments::{BoundSource, CheckStop, args_of};
 use sil_base::{Items, Record};
 use sil_macros::{Macro, is_assembly, shape};
 use sil_model::{Program, Specials, Statement, Table};

@@ -5,12 +5,11 @@ ghost use Rattle.sil_model.specs.WellFormed.{IsTable};
 ghost use Rattle.sil_symbols.specs.Symbols.{value_of};
 ghost use Rattle.syntax_tables.specs.TableFiles.{names_in, table_named};
 ghost use Rattle.syntax_tables.specs.Tables.{tables_of};
-ghost use Rattle.sil_check.specs.Arguments.{first_of};
-ghost use Rattle.sil_check.specs.HeldPrograms.{IsBound};
+ghost use Rattle.sil_arguments.specs.MadeArguments.{first_of};
+ghost use Rattle.sil_arguments.specs.HeldScopes.{IsBound};
 ghost use Rattle.sil_check.specs.TableFaults.{is_astray, goes_astray, table_rule, operand_faults, table_faults};
 
-use crate::arguments::rest_of;
-use crate::bound::BoundSource;
+use sil_arguments::{BoundSource, rest_of};
 use sil_base::{Fault, FaultStop, Items, MAX_TABLES, SOURCE_FILE, fault_at};
 use sil_macros::{Kind, Place, shape};
 use sil_model::Table;

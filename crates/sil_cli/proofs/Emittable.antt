@@ -6,8 +6,8 @@ use Rattle.layout_params.specs.Parameters.{Settings}
 use Rattle.sil_model.specs.declared.program.Program.{Program}
 use Rattle.sil_model.specs.Built.{AreBuilt}
 use Rattle.sil_model.specs.WellFormed.{IsWellFormed}
-use Rattle.sil_check.specs.declared.stop.CheckStop.{CheckStop}
-use Rattle.sil_check.specs.declared.stop.CheckStop.TheVariants as check
+use Rattle.sil_arguments.specs.declared.stop.CheckStop.{CheckStop}
+use Rattle.sil_arguments.specs.declared.stop.CheckStop.TheVariants as check
 use Rattle.sil_check.specs.Verdicts.{IsStopFor}
 use Rattle.rv_emit.specs.Emits.{CanEmit}
 use Rattle.sil_cli.specs.declared.ending.Stop.{Stop}

@@ -1,7 +1,7 @@
 -- The words of a command.
-use Rattle.std.specs.Prelude.{ℕ, ◌+◌, ◌-◌, ◌*◌, ◌^◌, List, [], ◌∷◌, length, Option, Some, None, Bool, false, ◌&&◌, not, if◌then◌else◌, ◌==◌, nat_le, nat_eq, codes}
+use Rattle.std.specs.Prelude.{ℕ, List, [], ◌∷◌, length, Option, Some, None, Bool, false, ◌&&◌, not, if◌then◌else◌, ◌==◌, nat_le, nat_eq, codes}
 use Rattle.sil_base.specs.declared.limits.TheConstants.{MAX_STEPS}
-use Rattle.std.specs.Str.{all_ascii_digits}
+use Rattle.sil_base.specs.Names.{is_number, value_of}
 use Rattle.std.specs.Cmp.Lexicographic.{pointwise}
 
 -- `go SRC TABLES PARAMS IMAGE N`
@@ -17,14 +17,12 @@ abbrev pub is_argument : List ℕ → Bool
 is_argument [] = false
 is_argument (first ∷ rest) = not (first == 45)
 
--- the value of decimal digits
-abbrev pub value_from : ℕ → List ℕ → ℕ
-value_from n [] = n
-value_from n (c ∷ cs) = value_from (10 * n + (c - 48)) cs
-
 -- 1 to 13 digits with a value of at most 2^40
-abbrev pub steps_of : List ℕ → Option ℕ
-steps_of word = if nat_le 1 (length word) && nat_le (length word) 13 && all_ascii_digits word && nat_le (value_from 0 word) MAX_STEPS then Some (value_from 0 word) else None
+abbrev pub are_steps : List ℕ → Bool
+are_steps word = is_number word && nat_le (length word) 13 && nat_le (value_of word) MAX_STEPS
+
+unfoldable pub steps_of : List ℕ → Option ℕ
+steps_of word = if are_steps word then Some (value_of word) else None
 
 -- the order, where the names of files are arguments
 abbrev pub order_with : List ℕ → List ℕ → List ℕ → List ℕ → Option ℕ → Option Order

@@ -4,8 +4,8 @@ use Rattle.std.specs.List.{flat_map}
 use Rattle.sil_base.specs.declared.line.Fault.{Fault}
 use Rattle.std.specs.declared.result.Result.{Result}
 use Rattle.std.specs.declared.result.Result.TheVariants.{Ok, Err}
-use Rattle.sil_check.specs.declared.stop.CheckStop.{CheckStop}
-use Rattle.sil_check.specs.declared.stop.CheckStop.TheVariants as check
+use Rattle.sil_arguments.specs.declared.stop.CheckStop.{CheckStop}
+use Rattle.sil_arguments.specs.declared.stop.CheckStop.TheVariants as check
 use Rattle.layout_params.specs.declared.stop.ParamStop.{ParamStop}
 use Rattle.layout_params.specs.declared.stop.ParamStop.TheVariants as params
 use Rattle.image_file.specs.declared.stop.ImageStop.{ImageStop}

@@ -37,7 +37,11 @@ fn prepare<S: Store>(alloc: Global, order: &Order<'_>, store: &mut S) -> Result<
 }
 
 /// Installs the program that an order's files give, and saves its image.
-fn install<S: Store>(alloc: Global, order: &Order<'_>, store: &mut S) -> Result<Vec<u8>, Stop>
+fn install_and_save<S: Store>(
+    alloc: Global,
+    order: &Order<'_>,
+    store: &mut S,
+) -> Result<Vec<u8>, Stop>
     ensures told { IfSome (S.files store.old) (λ files. MatchResult result
         (λ image. IsOkAnd (job_at (order_by order.now) files)
         (λ job. IsInstalled image.items job.program job.parameters)
@@ -73,6 +77,6 @@ pub fn go<S: Store, U: UnitSet>(
     ensures still { OnErr result (U.seen units.new ≡ U.seen units.old) }
     ensures causes { Causes (ending_of result) (S.faults store.old) (S.faults store.new) }
 {
-    let image = install(alloc, order, store)?;
+    let image = install_and_save(alloc, order, store)?;
     run_image(alloc, &image, order.steps, units)
 }

@@ -1,48 +1,28 @@
 // The words of a command.
-ghost use Rattle.std.specs.Prelude.{◌≡◌, ◌≤◌, length, true, map};
+ghost use Rattle.std.specs.Prelude.{◌≡◌, map};
 ghost use Rattle.std.specs.Option.{option_map};
 ghost use Rattle.std.specs.String.{string_bytes};
-ghost use Rattle.std.specs.Str.{all_ascii_digits};
-ghost use Rattle.sil_cli.specs.CommandWords.{order_of, steps_of, is_argument, value_from};
+ghost use Rattle.sil_cli.specs.CommandWords.{order_of, steps_of, is_argument};
 ghost use Rattle.sil_cli.specs.Orders.{order_by};
 
 use crate::order::Order;
-use sil_base::MAX_STEPS;
-
-/// Whether all bytes are decimal digits.
-fn are_digits(bytes: &[u8]) -> bool
-    ensures { result ≡ all_ascii_digits bytes.now }
-{
-    for b in bytes {
-        if !b.is_ascii_digit() {
-            return false;
-        }
-    }
-    true
-}
-
-/// The value of at most 13 digits.
-fn value_of(digits: &str) -> u64
-    requires digits { all_ascii_digits digits.now ≡ true }
-    requires some { 1 ≤ length digits.now }
-    requires few { length digits.now ≤ 13 }
-    ensures { result ≡ value_from 0 digits.now }
-{
-    match digits.parse() {
-        Ok(value) => value,
-        Err(_) => 0,
-    }
-}
+use sil_base::{MAX_STEPS, digits_value, is_number};
 
 /// A number of steps: 1 to 13 digits, at most 2^40.
+#[tactic(auto, unfolding(crate::specs::CommandWords::steps_of))]
 fn steps(word: &str) -> Option<u64>
     ensures { result ≡ steps_of word.now }
 {
-    if word.is_empty() || word.len() > 13 || !are_digits(word.as_bytes()) {
+    let digits = word.as_bytes();
+    if !is_number(digits) || digits.len() > 13 {
         return None;
     }
-    let steps = value_of(word);
-    (steps <= MAX_STEPS).then_some(steps)
+    let steps = digits_value(digits)?;
+    if steps <= MAX_STEPS {
+        Some(steps)
+    } else {
+        None
+    }
 }
 
 /// Whether a word can stand as an argument: it is not empty and doesn't begin with a minus sign.

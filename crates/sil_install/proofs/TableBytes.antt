@@ -10,7 +10,7 @@ use Rattle.sil_model.specs.declared.table.Action.TheVariants.{Contin, Goto, Stop
 use Rattle.sil_model.specs.declared.table.Entry.{Entry}
 use Rattle.sil_model.specs.declared.table.Table.{Table}
 use Rattle.sil_model.specs.WellFormed.{GoesWithin, IsEntry, IsTable}
-use Rattle.image_file.specs.Image.{entry_fits, entries_fit}
+use Rattle.image_file.specs.TableEntries.{entry_fits, entries_fit}
 use Rattle.rv_emit.specs.Parts.{table_entry_part, table_part}
 use Rattle.sil_install.specs.TableBytes.{entry_bytes, bytes_of}
 use Rattle.rv_emit.proofs.FirstMemory.{length-tables, long_tables}
@@ -20,20 +20,6 @@ use Rattle.rv_emit.proofs.FirstMemory.{length-tables, long_tables}
 flat_append : {A B : Type 0} (f : A → List B) (xs ys : List A) → flat_map f (xs ++ ys) ≡ flat_map f xs ++ flat_map f ys
 flat_append f [] ys = refl
 flat_append f (x ∷ xs) ys = ap (λ rest. f x ++ rest) (flat_append f xs ys) ∙ sym (append_assoc (f x) (flat_map f xs) (flat_map f ys))
-
-joined_3 : (old a b c : List ℕ) → ((old ++ a) ++ b) ++ c ≡ old ++ ((a ++ b) ++ c)
-joined_3 old a b c = ap (λ x. x ++ c) (append_assoc old a b) ∙ append_assoc old (a ++ b) c
-
-joined_4 : (old a b c d : List ℕ) → (((old ++ a) ++ b) ++ c) ++ d ≡ old ++ (((a ++ b) ++ c) ++ d)
-joined_4 old a b c d = ap (λ x. x ++ d) (joined_3 old a b c) ∙ append_assoc old ((a ++ b) ++ c) d
-
-joined_5 : (old a b c d e : List ℕ) → ((((old ++ a) ++ b) ++ c) ++ d) ++ e ≡ old ++ ((((a ++ b) ++ c) ++ d) ++ e)
-joined_5 old a b c d e = ap (λ x. x ++ e) (joined_4 old a b c d) ∙ append_assoc old (((a ++ b) ++ c) ++ d) e
-
--- the parts of an entry are put one after another
-pub entry_put : (old one two three four five : List ℕ) (a b c d e : List ℕ) → one ≡ old ++ a → two ≡ one ++ b → three ≡ two ++ c → four ≡ three ++ d → five ≡ four ++ e → five ≡ old ++ ((((a ++ b) ++ c) ++ d) ++ e)
-entry_put old one two three four five a b c d e h1 h2 h3 h4 h5 =
-    h5 ∙ ap (λ x. x ++ e) (h4 ∙ ap (λ x. x ++ d) (h3 ∙ ap (λ x. x ++ c) (h2 ∙ ap (λ x. x ++ b) h1))) ∙ joined_5 old a b c d e
 
 -- ---- one entry
 

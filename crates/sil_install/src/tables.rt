@@ -1,10 +1,10 @@
 // How tables lie in an image: sixteen bytes for each entry.
 ghost use Rattle.std.specs.Prelude.{◌≡◌, ◌++◌, IfOk, OnOk};
 ghost use Rattle.std.specs.List.{flat_map};
-ghost use Rattle.sil_base.specs.Bytes.{low_bytes};
 ghost use Rattle.rv_emit.specs.Parts.{action_number, next_table, put_flag, put_value};
 ghost use Rattle.sil_install.specs.TableBytes.{entry_bytes, bytes_of};
 
+use image_file::table_entry;
 use sil_model::{Action, Entry, Table};
 use std::alloc::{AllocError, Global};
 
@@ -51,46 +51,17 @@ fn put_value(put: Option<i64>) -> u64
     }
 }
 
-/// Appends the byte of an action.
-fn put_action(bytes: &mut Vec<u8>, action: Action) -> Result<(), AllocError>
-    ensures { OnOk result (bytes.new.items ≡ bytes.old.items ++ low_bytes 1 (action_number action)) }
-{
-    bytes.extend_from_slice(&action_number(action).to_le_bytes())
-}
-
-/// Appends the byte that tells whether there is a PUT.
-fn put_has_put(bytes: &mut Vec<u8>, put: Option<i64>) -> Result<(), AllocError>
-    ensures { OnOk result (bytes.new.items ≡ bytes.old.items ++ low_bytes 1 (put_flag put)) }
-{
-    bytes.extend_from_slice(&put_flag(put).to_le_bytes())
-}
-
-/// Appends the two bytes of the next table.
-fn put_next(bytes: &mut Vec<u8>, action: Action) -> Result<(), AllocError>
-    ensures { OnOk result (bytes.new.items ≡ bytes.old.items ++ low_bytes 2 (next_table action)) }
-{
-    bytes.extend_from_slice(&next_table(action).to_le_bytes())
-}
-
-/// Appends the eight bytes of the value of a PUT.
-fn put_put(bytes: &mut Vec<u8>, put: Option<i64>) -> Result<(), AllocError>
-    ensures { OnOk result (bytes.new.items ≡ bytes.old.items ++ low_bytes 8 (put_value put)) }
-{
-    bytes.extend_from_slice(&put_value(put).to_le_bytes())
-}
-
-/// Appends the bytes of an entry: the action, whether there is a PUT, the next table, four zeros,
-/// and the PUT.
+/// Appends the bytes of an entry.
 #[tactic(auto, unfolding(crate::specs::TableBytes::entry_bytes))]
 fn put_entry(bytes: &mut Vec<u8>, entry: &Entry) -> Result<(), AllocError>
     ensures { OnOk result (bytes.new.items ≡ bytes.old.items ++ entry_bytes entry.now) }
 {
-    put_action(bytes, entry.action)?;
-    put_has_put(bytes, entry.put)?;
-    put_next(bytes, entry.action)?;
-    bytes.extend_from_slice(&[0; 4])?;
-    put_put(bytes, entry.put)?;
-    Ok(())
+    bytes.extend_from_slice(&table_entry(
+        action_number(entry.action),
+        put_flag(entry.put),
+        next_table(entry.action),
+        put_value(entry.put),
+    ))
 }
 
 /// Appends the bytes of entries.

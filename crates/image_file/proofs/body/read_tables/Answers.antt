@@ -1,6 +1,6 @@
 use Rattle.std.proofs.Common.{◌≡◌, ◌∙◌, ◌/◌, length, refl, sym, ap, arith, length-append}
 use Rattle.std.proofs.lemmas.Result.{err_from_is_err_and}
-use Rattle.image_file.specs.Image.{entries_fit}
+use Rattle.image_file.specs.TableEntries.{entries_fit}
 use Rattle.image_file.proofs.Parts.{same_front}
 use Rattle.image_file.proofs.Stops.{stops_as}
 use Rattle.image_file.proofs.body.read_tables.Goals as goal

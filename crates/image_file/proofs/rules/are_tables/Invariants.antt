@@ -1,5 +1,5 @@
 use Rattle.std.proofs.Common.{◌≡◌, ◌/◌, length}
-use Rattle.image_file.specs.Image.{entries_fit}
+use Rattle.image_file.specs.TableEntries.{entries_fit}
 use Rattle.image_file.proofs.rules.are_tables.Given as goal
 
 -- the entries that are left decide

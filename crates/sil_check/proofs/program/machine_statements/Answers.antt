@@ -1,8 +1,9 @@
 use Rattle.std.proofs.Common.{◌≡◌, ◌+◌, ◌++◌, ◌∷◌, [], true, false, drop, ap, sym, ◌∙◌}
 use Rattle.sil_macros.specs.MacroRows.{row}
-use Rattle.sil_check.specs.HeldPrograms.{scope_in}
+use Rattle.sil_arguments.specs.HeldScopes.{scope_in}
 use Rattle.sil_check.specs.Programs.{machine_statements}
-use Rattle.sil_check.proofs.Made.{after, passed_over, taken}
+use Rattle.sil_arguments.proofs.Made.{after}
+use Rattle.sil_check.proofs.MadeStatements.{passed_over, taken}
 use Rattle.sil_check.proofs.program.machine_statements.Goals as goal
 use Rattle.sil_check.proofs.program.machine_statements.Goals.{then-not-is_assembly+in_ok-machine_statement+in_ok-push, else-not-is_assembly}
 

@@ -1,7 +1,7 @@
 use Rattle.std.proofs.Common.{◌≡◌, drop}
 use Rattle.sil_check.specs.Programs.{machine_statements}
-use Rattle.sil_check.specs.HeldPrograms.{scope_in}
-use Rattle.sil_check.proofs.Made.{after}
+use Rattle.sil_arguments.specs.HeldScopes.{scope_in}
+use Rattle.sil_arguments.proofs.Made.{after}
 use Rattle.sil_check.proofs.program.machine_statements.Given as goal
 
 abbrev pub invariant-loop-statement : goal.invariant-loop-statement

@@ -1,17 +1,13 @@
 -- Lists that are made item by item.
-use Rattle.std.proofs.Common.{◌≡◌, ℕ, ◌+◌, ◌<◌, suc, Bool, true, false, cond, List, [], ◌∷◌, ◌++◌, length, get_or, drop, Option, Some, None, refl, sym, ap, ◌∙◌, append_assoc, add-one, arith}
+use Rattle.std.proofs.Common.{◌≡◌, ℕ, ◌+◌, ◌<◌, suc, List, [], ◌∷◌, ◌++◌, length, get_or, drop, Option, Some, None, refl, sym, ap, ◌∙◌, append_assoc, add-one, arith}
 use Rattle.std.specs.Prelude.{option_map, ℤ}
 use Rattle.std.proofs.Math.Seq.{drop-cons}
 use Rattle.sil_macros.specs.declared.shapes.Place.{Place}
-use Rattle.sil_macros.specs.MacroRows.{row}
 use Rattle.sil_operands.specs.declared.expr.Term.{Term}
 use Rattle.sil_operands.specs.declared.operand.Operand.{Operand}
 use Rattle.sil_shapes.specs.ShapeRules.{Measure}
-use Rattle.sil_symbols.specs.declared.stmt.Stmt.{Stmt}
 use Rattle.sil_model.specs.declared.program.Arg.{Arg}
-use Rattle.sil_model.specs.declared.program.Statement.{Statement}
-use Rattle.sil_check.specs.Arguments.{Scope, and_before, arg_of, args_of, first_of, rest_of, place_in, places_in, location_in, locations_in}
-use Rattle.sil_check.specs.Programs.{machine_statement, machine_statements}
+use Rattle.sil_arguments.specs.MadeArguments.{Scope, and_before, arg_of, args_of, first_of, rest_of, place_in, places_in, location_in, locations_in}
 
 -- the items that are made already stand before those that are made next
 abbrev pub after : {A : Type 0} → List A → Option (List A) → Option (List A)
@@ -31,7 +27,8 @@ empty (x ∷ xs) h = absurd (omega arith)
 
 -- ---- operands
 
-first_left : {A : Type 0} (xs : List A) (i : ℕ) (x : A) → i < length xs → x ≡ get_or xs i x → drop i xs ≡ x ∷ drop (i + 1) xs
+-- the item at a place, and those after it
+pub first_left : {A : Type 0} (xs : List A) (i : ℕ) (x : A) → i < length xs → x ≡ get_or xs i x → drop i xs ≡ x ∷ drop (i + 1) xs
 first_left xs i x h is = rw add-one (drop-cons xs i x h ∙ ap (λ y. y ∷ drop (suc i) xs) (sym is))
 
 unfit_first : {A : Type 0} (o : Option A) (rest : Option (List A)) → o ≡ None → and_before o rest ≡ None
@@ -80,27 +77,3 @@ fitted_location m items i item made x h is some =
     ap (λ xs. after made (locations_in m xs)) (first_left items i item h is)
     ∙ ap (λ o. after made (and_before o (locations_in m (drop (i + 1) items)))) some
     ∙ after_push made x (locations_in m (drop (i + 1) items))
-
--- ---- statements
-
-assembly_passed : (b : Bool) (o : Option Statement) (rest : Option (List Statement)) → b ≡ true → cond b rest (and_before o rest) ≡ rest
-assembly_passed b o rest h = rw h refl
-
-executable_first : (b : Bool) (o : Option Statement) (rest : Option (List Statement)) → b ≡ false → cond b rest (and_before o rest) ≡ and_before o rest
-executable_first b o rest h = rw h refl
-
--- a statement of the assembly is passed over
-pub passed_over : (scope : Scope) (source : List Stmt) (i : ℕ) (s : Stmt) → i < length source → s ≡ get_or source i s → (row s.name).assembly ≡ true →
-    machine_statements scope (drop i source) ≡ machine_statements scope (drop (i + 1) source)
-passed_over scope source i s h is b =
-    ap (machine_statements scope) (first_left source i s h is)
-    ∙ assembly_passed (row s.name).assembly (machine_statement scope s) (machine_statements scope (drop (i + 1) source)) b
-
--- an executable statement is made
-pub taken : (scope : Scope) (source : List Stmt) (i : ℕ) (s : Stmt) (made : List Statement) (x : Statement) → i < length source → s ≡ get_or source i s → (row s.name).assembly ≡ false → machine_statement scope s ≡ Some x →
-    after made (machine_statements scope (drop i source)) ≡ after (made ++ x ∷ []) (machine_statements scope (drop (i + 1) source))
-taken scope source i s made x h is b some =
-    ap (λ ss. after made (machine_statements scope ss)) (first_left source i s h is)
-    ∙ ap (after made) (executable_first (row s.name).assembly (machine_statement scope s) (machine_statements scope (drop (i + 1) source)) b
-    ∙ ap (λ o. and_before o (machine_statements scope (drop (i + 1) source))) some)
-    ∙ after_push made x (machine_statements scope (drop (i + 1) source))

@@ -16,7 +16,7 @@ pub enum CheckStop {
 }
 
 impl From<AllocError> for CheckStop {
-    ghost use Rattle.sil_check.specs.declared.stop.CheckStop.TheVariants.{Memory};
+    ghost use Rattle.sil_arguments.specs.declared.stop.CheckStop.TheVariants.{Memory};
 
     ghost from_gives = { λ _ e. e ≡ Memory };
 
@@ -26,7 +26,7 @@ impl From<AllocError> for CheckStop {
 }
 
 impl<T: Drop> From<AllocFailed<T>> for CheckStop {
-    ghost use Rattle.sil_check.specs.declared.stop.CheckStop.TheVariants.{Memory};
+    ghost use Rattle.sil_arguments.specs.declared.stop.CheckStop.TheVariants.{Memory};
 
     ghost from_gives = { λ _ e. e ≡ Memory };
 
@@ -36,7 +36,7 @@ impl<T: Drop> From<AllocFailed<T>> for CheckStop {
 }
 
 impl From<FaultStop> for CheckStop {
-    ghost use Rattle.sil_check.specs.Verdicts.{stop_below};
+    ghost use Rattle.sil_arguments.specs.CheckStops.{stop_below};
 
     ghost from_gives = { λ stop e. e ≡ stop_below stop };
 

@@ -1,8 +1,8 @@
 // Lists of places and of locations, as the machine takes them.
 ghost use Rattle.std.specs.Prelude.{◌≡◌, ◌∷◌, [], MatchResult, IfOk, Some};
 ghost use Rattle.sil_shapes.specs.HeldSources.{IsResolution, measure_in};
-ghost use Rattle.sil_check.specs.Arguments.{location_in, locations_in, place_in, places_in};
-ghost use Rattle.sil_check.specs.HeldPrograms.{IsUnmade};
+ghost use Rattle.sil_arguments.specs.MadeArguments.{location_in, locations_in, place_in, places_in};
+ghost use Rattle.sil_arguments.specs.HeldScopes.{IsUnmade};
 
 use crate::stop::CheckStop;
 use sil_base::Items;

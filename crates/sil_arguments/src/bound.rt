@@ -5,7 +5,7 @@ use syntax_tables::Written;
 
 /// A source that was resolved, and its tables file.
 #[derive(Clone, Copy)]
-pub(crate) struct BoundSource<'a> {
+pub struct BoundSource<'a> {
     pub source: Resolution<'a>,
     pub tables: &'a Written,
 }

@@ -5,8 +5,8 @@ ghost use Rattle.sil_symbols.specs.Symbols.{value_of};
 ghost use Rattle.sil_shapes.specs.HeldSources.{measure_in};
 ghost use Rattle.sil_shapes.specs.ShapeRules.{flags_of, format_at, location_of};
 ghost use Rattle.syntax_tables.specs.TableFiles.{names_in, table_named};
-ghost use Rattle.sil_check.specs.Arguments.{action_named, arg_by, arg_of, args_of, first_of, list_arg, null_arg, rest_of, text_at};
-ghost use Rattle.sil_check.specs.HeldPrograms.{IsBound, IsUnmade, scope_in};
+ghost use Rattle.sil_arguments.specs.MadeArguments.{action_named, arg_by, arg_of, args_of, first_of, list_arg, null_arg, rest_of, text_at};
+ghost use Rattle.sil_arguments.specs.HeldScopes.{IsBound, IsUnmade, scope_in};
 
 use crate::bound::BoundSource;
 use crate::lists::{locations_in, one_location, one_place, places_in};
@@ -201,7 +201,7 @@ fn first_arg(
 }
 
 /// The operands after the first.
-pub(crate) fn rest_of(operands: &[Operand]) -> &[Operand]
+pub fn rest_of(operands: &[Operand]) -> &[Operand]
     ensures { result.now ≡ rest_of operands.now }
 {
     match operands.split_first() {
@@ -211,7 +211,7 @@ pub(crate) fn rest_of(operands: &[Operand]) -> &[Operand]
 }
 
 /// The operands in these places.
-pub(crate) fn args_of(
+pub fn args_of(
     alloc: Global,
     bound: &BoundSource<'_>,
     places: &[Place],

@@ -1,7 +1,5 @@
 -- The operands of executable statements, as the machine takes them.
-use Rattle.std.specs.Prelude.{ℕ, ◌-◌, ◌/◌, ◌%◌, nat_le, List, [], ◌∷◌, codes, Option, Some, None, option_map, option_and_then, slice_get, Bool, true, false, ◌&&◌, ◌==◌, if◌then◌else◌, ℤ, pos, negsuc}
-use Rattle.layout_params.specs.declared.cell.Cell.{Cell}
-use Rattle.layout_params.specs.declared.cell.Cell.TheVariants.{Descr, Chars}
+use Rattle.std.specs.Prelude.{ℕ, List, [], ◌∷◌, codes, Option, Some, None, option_map, option_and_then, slice_get, if◌then◌else◌, ℤ}
 use Rattle.sil_macros.specs.declared.shapes.Kind.{Kind}
 use Rattle.sil_macros.specs.declared.shapes.Kind.TheVariants as kind
 use Rattle.sil_macros.specs.declared.shapes.Place.{Place}
@@ -16,7 +14,6 @@ use Rattle.data_asm.specs.DataFields.{first_text}
 use Rattle.syntax_tables.specs.declared.saying.Said.{Said}
 use Rattle.syntax_tables.specs.TableFiles.{names_in, table_named}
 use Rattle.sil_base.specs.Names.{is_word}
-use Rattle.sil_base.specs.declared.places.TheConstants.{FIRST_CELL}
 use Rattle.sil_model.specs.declared.program.Arg.{Arg}
 use Rattle.sil_model.specs.declared.program.Arg.TheVariants as arg
 use Rattle.sil_model.specs.declared.table.Action.{Action}
@@ -119,21 +116,3 @@ rest_of (operand ∷ operands) = operands
 abbrev pub args_of : Scope → List Place → List Operand → Option (List Arg)
 args_of scope [] operands = Some []
 args_of scope (place ∷ places) operands = and_before (arg_of scope place (first_of operands)) (args_of scope places (rest_of operands))
-
--- ---- places that are installed so far
-
-abbrev pub is_descriptor : Option Cell → Bool
-is_descriptor None = false
-is_descriptor (Some (Descr d)) = true
-is_descriptor (Some (Chars bytes)) = false
-
--- the address of a descriptor among these cells, the first cells of the machine, each of so many bytes
-abbrev pub is_descriptor_at : ℕ → List Cell → ℤ → Bool
-is_descriptor_at size cells (negsuc n) = false
-is_descriptor_at size cells (pos n) =
-    nat_le FIRST_CELL n && ((n - FIRST_CELL) % size == 0) && is_descriptor (slice_get cells ((n - FIRST_CELL) / size))
-
--- a place is the address of a static descriptor
-abbrev pub is_static : ℕ → List Cell → Arg → Bool
-is_static size cells (arg.Place at) = is_descriptor_at size cells at
-is_static size cells _ = true

@@ -1,8 +1,8 @@
 use Rattle.std.proofs.Common.{◌≡◌, drop}
 use Rattle.sil_shapes.specs.HeldSources.{measure_in}
-use Rattle.sil_check.specs.Arguments.{locations_in}
-use Rattle.sil_check.proofs.Made.{after}
-use Rattle.sil_check.proofs.lists.locations_in.Given as goal
+use Rattle.sil_arguments.specs.MadeArguments.{locations_in}
+use Rattle.sil_arguments.proofs.Made.{after}
+use Rattle.sil_arguments.proofs.lists.locations_in.Given as goal
 
 abbrev pub invariant-loop-item : goal.invariant-loop-item
 invariant-loop-item l =

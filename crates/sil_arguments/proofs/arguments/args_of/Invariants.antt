@@ -1,8 +1,8 @@
 use Rattle.std.proofs.Common.{◌≡◌, drop}
-use Rattle.sil_check.specs.HeldPrograms.{scope_in}
-use Rattle.sil_check.specs.Arguments.{args_of}
-use Rattle.sil_check.proofs.Made.{after}
-use Rattle.sil_check.proofs.arguments.args_of.Given as goal
+use Rattle.sil_arguments.specs.HeldScopes.{scope_in}
+use Rattle.sil_arguments.specs.MadeArguments.{args_of}
+use Rattle.sil_arguments.proofs.Made.{after}
+use Rattle.sil_arguments.proofs.arguments.args_of.Given as goal
 
 abbrev pub invariant-loop-place : goal.invariant-loop-place
 invariant-loop-place l =

@@ -1,6 +1,6 @@
 -- Operands that are made fit the row of their macro.
-use Rattle.std.proofs.Common.{◌≡◌, ◌≤◌, ℕ, Bool, true, false, cond, ◌&&◌, List, [], ◌∷◌, length, Option, Some, None, refl, arith}
-use Rattle.std.specs.Prelude.{All, FitsSigned, IsTrue, codes, nat_le, option_map, option_and_then, ℤ}
+use Rattle.std.proofs.Common.{◌≡◌, ◌<◌, ◌≤◌, ℕ, Bool, true, false, cond, ◌&&◌, List, [], ◌∷◌, length, Option, Some, None, refl, arith}
+use Rattle.std.specs.Prelude.{All, Contains, FitsSigned, IsTrue, codes, nat_le, option_map, option_and_then, ℤ}
 use Rattle.std.specs.Int.{w64}
 use Rattle.std.specs.List.{list_all}
 use Rattle.std.proofs.lemmas.Bool.Decides.{nat_tests}
@@ -21,8 +21,15 @@ use Rattle.sil_model.specs.declared.program.Arg.TheVariants as arg
 use Rattle.sil_model.specs.declared.table.Action.{Action}
 use Rattle.sil_model.specs.declared.table.Action.TheVariants.{Contin, Stop, Stopsh, Error}
 use Rattle.sil_model.specs.Fits.{Bounds, IsStatement, IsWithin, fit, fits_slot}
-use Rattle.sil_check.specs.Arguments.{Scope, action_named, and_before, arg_by, arg_of, args_of, first_of, list_arg, location_in, locations_in, null_arg, place_in, places_in, rest_of}
-use Rattle.sil_check.proofs.ScopeLemmas.{IsScope}
+use Rattle.sil_arguments.specs.MadeArguments.{Scope, action_named, and_before, arg_by, arg_of, args_of, first_of, list_arg, location_in, locations_in, null_arg, place_in, places_in, rest_of}
+
+-- what names stand for is within these bounds
+pub record IsScope (b : Bounds) (scope : Scope) : Type 0 where
+  pub values : (terms : List Term) (z : ℤ) → scope.measure.values terms ≡ Some z → FitsSigned w64 z
+  pub locations : (terms : List Term) (k : ℕ) → location_of scope.measure terms ≡ Some k → k < b.statements
+  pub flags : (terms : List Term) (f : ℕ) → flags_of scope.measure terms ≡ Some f → f ≤ b.flag_limit
+  pub tables : (name : List ℕ) (t : ℕ) → scope.tables name ≡ Some t → t < b.tables
+  pub texts : (terms : List Term) (text : List ℕ) → option_and_then scope.texts (format_at scope.measure terms) ≡ Some text → Contains b.formats text
 
 pub both : (a b : Bool) → (a && b) ≡ true → (a ≡ true) × (b ≡ true)
 both a b h = grind arith

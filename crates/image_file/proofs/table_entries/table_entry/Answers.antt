@@ -1,0 +1,10 @@
+use Rattle.std.proofs.Common.{◌∙◌, refl}
+use Rattle.image_file.proofs.table_entries.table_entry.Goals as goal
+
+pub returns : goal.returns
+returns c =
+    let a = c.copy_from_slice.ensures.after in
+    let b = c.copy_from_slice-2.ensures.after in
+    let d = c.copy_from_slice-3.ensures.after ∙ c.bytes_16.ensures in
+    let e = c.copy_from_slice-4.ensures.after ∙ c.bytes_64.ensures in
+    rw (a, b, d, e) refl

@@ -1,0 +1,3 @@
+pub mod MadeArguments
+pub mod HeldScopes
+pub mod CheckStops
