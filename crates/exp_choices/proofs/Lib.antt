@@ -1,0 +1,4 @@
+pub mod Locations
+pub mod Orders
+pub mod Sums
+pub mod Products
