@@ -1,4 +1,4 @@
-pub mod Locations
+pub mod Leads
 pub mod Orders
 pub mod Sums
 pub mod Products

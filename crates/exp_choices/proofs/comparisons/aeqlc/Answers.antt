@@ -2,7 +2,7 @@ use Rattle.std.proofs.Common.{length, lit≤, refl}
 use Rattle.std.proofs.lemmas.Int.{to_z-of_z}
 use Rattle.sil_model.specs.ComparisonClauses.{aeqlc}
 use Rattle.exp_descr.proofs.Questions.{by_read}
-use Rattle.exp_choices.proofs.Locations.{goes_to, lead_within}
+use Rattle.exp_choices.proofs.Leads.{goes_to, lead_within}
 use Rattle.exp_choices.proofs.Orders.{by_difference}
 use Rattle.exp_choices.proofs.comparisons.aeqlc.Goals as goal
 use mir.Val.{SFits}
@@ -16,12 +16,12 @@ returns c =
     let stands = simp (to_z-of_z, c.begin_statement.ensures) at c.in_ok-append.ensures.appends in
     let to = c.statements.ensures in
     let among = lead_within (length c.args.code.old.entries) c.args.k in
-    let w0 = among c.args.to.no c.requires.statement c.requires.within.2 in
-    let w1 = among c.args.to.yes c.requires.statement c.requires.within.3 in
+    let w0 = among c.args.to.no c.requires.statement (c.requires.within 2 _ refl) in
+    let w1 = among c.args.to.yes c.requires.statement (c.requires.within 3 _ refl) in
     record {
       piece = _;
       stands = stands;
-      is_piece = record { part = refl; begins = refl; once = refl; names = simp (to.no, to.yes, w0, w1); light = lit≤ tt };
+      is_piece = record { part = refl; begins = refl; once = refl; names = simp (to.no, to.yes, w0, w1); quiet = refl; light = lit≤ tt };
       does = λ g program parameters u h.
           let m = u.state.memory in
           let valid = h.valid.memory in

@@ -4,7 +4,7 @@ use Rattle.std.specs.Prelude.{pos}
 use Rattle.sil_model.specs.ComparisonClauses.{chkval}
 use Rattle.sil_model.specs.Integers.{◌⊞◌}
 use Rattle.exp_descr.proofs.Questions.{by_read}
-use Rattle.exp_choices.proofs.Locations.{goes_to, lead_within}
+use Rattle.exp_choices.proofs.Leads.{goes_to, lead_within}
 use Rattle.exp_choices.proofs.Orders.{by_order}
 use Rattle.exp_choices.proofs.comparisons.chkval.Goals as goal
 use mir.Val.{SFits}
@@ -19,13 +19,13 @@ returns c =
     let stands = simp (to_z-of_z, c.begin_statement.ensures) at c.in_ok-append.ensures.appends in
     let to = c.statements.ensures in
     let among = lead_within (length c.args.code.old.entries) c.args.k in
-    let w0 = among c.args.to.greater c.requires.statement c.requires.within.3 in
-    let w1 = among c.args.to.equal c.requires.statement c.requires.within.4 in
-    let w2 = among c.args.to.less c.requires.statement c.requires.within.5 in
+    let w0 = among c.args.to.greater c.requires.statement (c.requires.within 3 _ refl) in
+    let w1 = among c.args.to.equal c.requires.statement (c.requires.within 4 _ refl) in
+    let w2 = among c.args.to.less c.requires.statement (c.requires.within 5 _ refl) in
     record {
       piece = _;
       stands = stands;
-      is_piece = record { part = refl; begins = refl; once = refl; names = simp (to.greater, to.equal, to.less, w0, w1, w2); light = lit≤ tt };
+      is_piece = record { part = refl; begins = refl; once = refl; names = simp (to.greater, to.equal, to.less, w0, w1, w2); quiet = refl; light = lit≤ tt };
       does = λ g program parameters u h.
           let m = u.state.memory in
           let valid = h.valid.memory in

@@ -5,7 +5,7 @@ use Rattle.sil_model.specs.ComparisonClauses.{testfi}
 use Rattle.sil_micro.proofs.Making.{by_test}
 use Rattle.exp_descr.proofs.Arithmetic.{both_flags}
 use Rattle.exp_descr.proofs.Questions.{by_read}
-use Rattle.exp_choices.proofs.Locations.{goes_to, lead_within}
+use Rattle.exp_choices.proofs.Leads.{goes_to, lead_within}
 use Rattle.exp_choices.proofs.comparisons.testfi.Goals as goal
 use mir.Val.{SFits}
 use mir.Syntax.{w64}
@@ -19,12 +19,12 @@ returns c =
     let stands = simp (c.begin_statement.ensures, c.from.ensures) at exact in
     let to = c.statements.ensures in
     let among = lead_within (length c.args.code.old.entries) c.args.k in
-    let w0 = among c.args.to.no c.requires.statement c.requires.within.2 in
-    let w1 = among c.args.to.yes c.requires.statement c.requires.within.3 in
+    let w0 = among c.args.to.no c.requires.statement (c.requires.within 2 _ refl) in
+    let w1 = among c.args.to.yes c.requires.statement (c.requires.within 3 _ refl) in
     record {
       piece = _;
       stands = stands;
-      is_piece = record { part = refl; begins = refl; once = refl; names = simp (to.no, to.yes, w0, w1); light = lit≤ tt };
+      is_piece = record { part = refl; begins = refl; once = refl; names = simp (to.no, to.yes, w0, w1); quiet = refl; light = lit≤ tt };
       does = λ g program parameters u h.
           let m = u.state.memory in
           let flags : c.args.flags < 2 ^ 32 = c.ranges.flags.fits in
