@@ -61,15 +61,15 @@ routines_at d statements = record {
   below_cells = first_routine + 456;
   below_state = first_routine + 484;
   state = first_routine + 512;
-  make = first_routine + 572;
-  kind = first_routine + 652 + 4 * (d / 8);
-  entry = first_routine + 716 + 8 * (d / 8);
-  return_part = first_routine + 780 + 8 * (d / 8) + 8 * statements;
+  make = first_routine + 568;
+  kind = first_routine + 648 + 4 * (d / 8);
+  entry = first_routine + 712 + 8 * (d / 8);
+  return_part = first_routine + 776 + 8 * (d / 8) + 8 * statements;
 }
 
 -- the place of the first operation
 abbrev pub first_op : ℕ → ℕ → ℕ
-first_op d statements = first_routine + 844 + 8 * (d / 8) + 16 * statements
+first_op d statements = first_routine + 840 + 8 * (d / 8) + 16 * statements
 
 -- the instructions of the routines over so many cells
 abbrev pub routines_code : Sizes → ℕ → List Instr
