@@ -23,7 +23,7 @@ use Rattle.rv_operations.specs.Places.{Places, target_place}
 use Rattle.rv_operations.specs.Links.{fixed_bits}
 use Rattle.rv_operations.specs.Codes.{copy_code, arith_code, branch_op, load_field_code, store_field_code, store_cell_code, begin_code, end_code, instructions, op_length}
 use Rattle.rv_operations.specs.Routines.{HasRoutines}
-use Rattle.rv_operations.specs.Does.{Does, Begins}
+use Rattle.rv_operations.specs.Does.{Does, Begins, BeginsAnew}
 
 abbrev pub LawOfConst : Type 0
 LawOfConst =
@@ -81,7 +81,7 @@ LawOfStoreCell =
 abbrev pub LawOfBegin : Type 0
 LawOfBegin =
     (image : Image) (last : ℕ) (g : Setting) (places : Places) (k : ℕ) (u : Micro) (s : State)
-    → k < 2 ^ 31 - 2 ^ 11 → k ≤ length image.statements → Begins image last g (begin_code k) u s
+    → k < 2 ^ 31 - 2 ^ 11 → k ≤ length image.statements → BeginsAnew image last g (begin_code k) u s
     → Does image last g places false 6 (s.pc + 28) s (act g (Begin k) u)
 
 abbrev pub LawOfEnd : Type 0
