@@ -1,6 +1,7 @@
 -- All operations: their instructions in a code, what these rest on, and that they do what the operations do.
-use Rattle.std.specs.Prelude.{◌≡◌, ℕ, ◌+◌, ◌-◌, ◌*◌, ◌%◌, ◌^◌, ◌<◌, ◌≤◌, List, length, Bool, true, false, ◌==◌, IsTrue, FitsSigned}
+use Rattle.std.specs.Prelude.{◌≡◌, ℕ, ◌+◌, ◌-◌, ◌*◌, ◌%◌, ◌^◌, ◌<◌, ◌≤◌, List, length, Bool, true, false, not, IsTrue, FitsSigned}
 use Rattle.std.specs.Int.{w64}
+use Rattle.std.specs.List.{flat_map}
 use Rattle.sil_base.specs.declared.limits.TheConstants.{MAX_CONSTANT_BYTES, MAX_STATEMENTS, MAX_STEPS}
 use Rattle.layout_params.specs.Parameters.{Settings}
 use Rattle.sil_micro.specs.declared.op.Area.TheVariants as areas
@@ -8,7 +9,8 @@ use Rattle.sil_micro.specs.declared.op.Fixed.TheVariants.{Number}
 use Rattle.sil_micro.specs.declared.op.Op.{Op}
 use Rattle.sil_micro.specs.declared.op.Op.TheVariants.{Const, Jump, JumpIf, LoadWord, StoreWord, UnitCall, Begin}
 use Rattle.sil_micro.specs.Forms.{is_op}
-use Rattle.sil_micro.specs.Operations.{weight, perform}
+use Rattle.sil_micro.specs.Operations.{act, weight}
+use Rattle.sil_micro.specs.Pieces.{is_no_begin, is_quiet}
 use Rattle.sil_micro.specs.States.{Setting, Micro}
 use Rattle.image_file.specs.Image.{Image}
 use Rattle.rv_isa.specs.declared.instr.Instr.{Instr}
@@ -18,7 +20,7 @@ use Rattle.rv_operations.specs.Codes.{instructions, op_length}
 use Rattle.rv_operations.specs.Links.{fixed_bits, links_of}
 use Rattle.rv_operations.specs.Places.{Places, target_place}
 use Rattle.rv_operations.specs.Routines.{HasRoutines}
-use Rattle.rv_operations.specs.Does.{Does, Begins}
+use Rattle.rv_operations.specs.Does.{Does, BeginsAnew}
 
 -- ---- an operation in a code
 
@@ -52,18 +54,18 @@ NamesNear g places (JumpIf test left right to) = IsNear (target_place places to)
 NamesNear g places (Begin k) = k ≤ g.statements
 NamesNear g places op = Unit {0}
 
--- what all operations of a code rest on: the routines stand, the image has the code's statements, and the steps allowed and the constants are within their limits
+-- the number of the current statement is known, but to a Begin
+abbrev pub IsKnown : Setting → Op → Micro → Type 0
+IsKnown g op u = IsTrue (is_no_begin op) → u.state.statement ≤ g.statements
+
+-- what all operations of a code rest on: the routines stand; the image has the code's statements, and as constants its formats; and the steps allowed are within their limit
 pub record Supports (image : Image) (last : ℕ) (g : Setting) (places : Places) : Type 0 where
   pub routines : HasRoutines image last g places
   pub statements : length image.statements ≡ g.statements
   pub few : g.statements ≤ MAX_STATEMENTS
+  pub texts : image.constants ≡ flat_map (λ text. text) g.formats
+  pub short : length image.constants ≤ MAX_CONSTANT_BYTES
   pub steps : g.bound ≤ MAX_STEPS
-  pub constants : length image.constants ≤ MAX_CONSTANT_BYTES
-
--- call 3 alone writes
-abbrev pub prints_op : Op → Bool
-prints_op (UnitCall call unit to text values) = call == 3
-prints_op op = false
 
 -- so far not for words of tables, and calls on units
 abbrev pub is_shown : Op → Bool
@@ -74,13 +76,13 @@ is_shown op = true
 
 -- ---- the laws
 
--- the instructions of an operation do what it does, within its weight
+-- the instructions of an operation do what it does, within its weight; only call 3 writes
 abbrev pub LawOfOps : Type 0
 LawOfOps =
     (image : Image) (last : ℕ) (g : Setting) (places : Places) (op : Op) (u : Micro) (s : State)
     → IsTrue (is_shown op) → Supports image last g places → IsTrue (is_op op) → NamesNear g places op
-    → Begins image last g (code_of g places s.pc op) u s
-    → Does image last g places (prints_op op) (weight op) (s.pc + 4 * length_of g.settings g.static_cells op) s (perform g op u)
+    → BeginsAnew image last g (code_of g places s.pc op) u s → IsKnown g op u
+    → Does image last g places (not (is_quiet op)) (weight op) (s.pc + 4 * length_of g.settings g.static_cells op) s (act g op u)
 
 -- they are as many as its length says
 abbrev pub LawOfOpLengths : Type 0
