@@ -1,0 +1,10 @@
+pub mod Parted
+pub mod Sums
+pub mod Words
+pub mod Lengths
+pub mod RoutineWords
+pub mod Weights
+pub mod Placed
+pub mod Entries
+pub mod WholeParts
+pub mod OpParts
