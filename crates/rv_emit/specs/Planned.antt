@@ -1,19 +1,26 @@
 -- What the parts of emission rest on, and their instructions for contracts, which don't unfold them.
-use Rattle.std.specs.Prelude.{◌≡◌, ℕ, ◌+◌, List, length, Option, Some}
+use Rattle.std.specs.Prelude.{◌≡◌, ℕ, ◌+◌, ◌^◌, ◌<◌, List, length, All, Option, Some}
 use Rattle.std.specs.Option.{option_map}
 use Rattle.rv_isa.specs.declared.instr.Instr.{Instr}
 use Rattle.layout_params.specs.Areas.{all_cells}
 use Rattle.layout_params.specs.Parameters.{Settings}
+use Rattle.sil_micro.specs.declared.op.Op.{Op}
 use Rattle.sil_micro.specs.Codes.{MicroCode, place_of, return_of}
 use Rattle.rv_emit.specs.declared.plan.Switch.{Switch}
 use Rattle.rv_emit.specs.declared.plan.Switch.TheVariants.{Entry, ReturnPart}
-use Rattle.rv_emit.specs.Code.{first_op, front_code, op_place, ops_code, place_from, routines_at, routines_code, stack_top, start_code, switch_part, table_code}
-use Rattle.rv_emit.specs.Emits.{CanEmit, op_places}
+use Rattle.rv_emit.specs.Code.{first_op, front_code, number_of, op_place, ops_code, place_from, routines_at, routines_code, stack_top, start_code, switch_part, table_code}
+use Rattle.rv_emit.specs.Emits.{CanEmit, HasNumber, op_places}
+
+-- the number of an operation has 64 bits
+pub record IsWord (settings : Settings) (statics : ℕ) (op : Op) : Type 0 where
+  pub number : HasNumber op
+  pub fits : number_of settings statics op < 2 ^ 64
 
 -- the places of the operations of a code that can be emitted
 pub record IsPlanned (settings : Settings) (c : MicroCode) (ops : List ℕ) : Type 0 where
   pub places : ops ≡ op_places settings c
   pub can : CanEmit c settings
+  pub words : All (IsWord settings c.static_cells) c.ops
 
 -- where the jumps of a routine lead
 abbrev pub leads : Settings → MicroCode → Switch → ℕ → Option ℕ

@@ -7,7 +7,7 @@ ghost use Rattle.sil_micro.specs.Codes.{op_leads};
 ghost use Rattle.sil_micro.specs.Pieces.{names_within};
 ghost use Rattle.rv_operations.specs.Links.{cell_place, fixed_bits, links_of, no_links, text_links};
 ghost use Rattle.rv_emit.specs.Code.{number_of, places_of};
-ghost use Rattle.rv_emit.specs.Planned.{IsPlanned};
+ghost use Rattle.rv_emit.specs.Planned.{IsPlanned, IsWord};
 
 use crate::plan::Plan;
 use layout_params::{Layout, Params};
@@ -71,7 +71,8 @@ fn fixed_bits(params: &Params, statics: u64, value: Fixed) -> u64
 /// The bits of an operation's number, 0 where it has none.
 pub fn number_of(params: &Params, statics: u64, op: Op) -> u64
     requires { all_cells params.now.settings statics ≤ 2 ^ 20 }
-    ensures { result ≡ number_of params.now.settings statics op }
+    ensures value { result ≡ number_of params.now.settings statics op }
+    ensures word { IsWord params.now.settings statics op }
 {
     match op {
         Op::Const { value, .. } => fixed_bits(params, statics, value),

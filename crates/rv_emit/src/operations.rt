@@ -2,7 +2,7 @@
 ghost use Rattle.std.specs.Prelude.{◌≡◌, ◌++◌, ◌<◌, ◌≤◌, ◌^◌, IfOk, OnOk};
 ghost use Rattle.rv_operations.specs.Codes.{op_length};
 ghost use Rattle.rv_operations.specs.Sites.{HasRules, IsBegun};
-ghost use Rattle.rv_emit.specs.Emits.{CanEmit, op_places};
+ghost use Rattle.rv_emit.specs.Emits.{CanEmit};
 ghost use Rattle.rv_emit.specs.Planned.{IsPlanned, operations_of};
 
 use crate::links::{links_of, number_links, number_of};
@@ -44,7 +44,7 @@ pub fn op_places<L: Layout>(
     params: &Params,
 ) -> Result<Vec<u64>, AllocError>
     requires { CanEmit code.now params.now.settings }
-    ensures { IfOk result (λ places. places.items ≡ op_places params.now.settings code.now) }
+    ensures { IfOk result (λ places. IsPlanned params.now.settings code.now places.items) }
 {
     let statics = u64::from(code.static_cells());
     let mut scratch = Vec::new(alloc);

@@ -31,7 +31,7 @@ impl Plan<'_> {
         requires plan { IsPlanned self.now.params.now.settings self.now.code.now self.now.ops.now }
         requires within { q ≤ length self.now.code.now.ops }
         ensures value { result ≡ op_place self.now.params.now.settings self.now.code.now q }
-        ensures low { result < 2 ^ 30 }
+        ensures low { result < 2 ^ 31 - 2 ^ 13 }
     {
         self.ops[q as usize] as u32
     }
