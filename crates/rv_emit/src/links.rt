@@ -98,8 +98,9 @@ fn format_links(formats: &[Record], i: u32) -> Links
     requires few { sum_by length formats.now ≤ 2097152 }
     ensures { result ≡ text_links formats.now (Text.Format i) }
 {
+    let before = &formats[..i as usize];
     let mut text = FIRST_CONSTANT as u32;
-    for format in &formats[..i as usize] {
+    for format in before {
         text += format.bytes().len() as u32;
     }
     Links {

@@ -53,7 +53,8 @@ pub fn op_places<L: Layout>(
         params.numbers().descr() as u32,
         code.statements() as u32,
     ));
-    for op in code.ops() {
+    let ops = code.ops();
+    for op in ops {
         places.push(place)?;
         let number = number_of(params, statics, *op);
         place += 4 * length_of(&mut scratch, layout, number, *op)? as u64;
@@ -76,7 +77,8 @@ pub fn append_ops<L: Layout>(
         plan.params.numbers().descr() as u32,
         plan.code.statements() as u32,
     );
-    for (q, op) in plan.code.ops().iter().enumerate() {
+    let ops = plan.code.ops();
+    for (q, op) in ops.iter().enumerate() {
         let site = Site {
             routines,
             links: links_of(plan, *op),
