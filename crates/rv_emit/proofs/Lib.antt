@@ -8,3 +8,8 @@ pub mod Placed
 pub mod Entries
 pub mod WholeParts
 pub mod OpParts
+pub mod Ops
+pub mod OpPlaces
+pub mod Steps
+pub mod CodeWords
+pub mod Rising

@@ -17,9 +17,9 @@ use Rattle.rv_straight.specs.Constants.{is_short, is_word, constant_length}
 use Rattle.rv_operations.specs.Codes.{op_length, text_length, values_length}
 use Rattle.rv_emit.specs.Code.{length_of, number_of}
 
--- at least one instruction, and at most the weight
+-- at least one instruction, and at most the weight and twelve
 abbrev IsLong : ℕ → Op → Type 0
-IsLong n op = (0 < n) × (n ≤ weight op)
+IsLong n op = (0 < n) × (n ≤ weight op) × (n ≤ 12)
 
 constant_by : (a b : Bool) → (0 < cond a 1 (cond b 2 8)) × (cond a 1 (cond b 2 8) ≤ 8)
 constant_by true b = (omega arith, omega arith)
@@ -37,39 +37,44 @@ values_short (values.Words count) = omega arith
 values_short (values.Chars at len) = omega arith
 
 is_long : (number : ℕ) (op : Op) → IsLong (op_length number op) op
-is_long number (Const to value) = constant_by (is_short number) (is_word number)
-is_long number (Copy to from) = (omega arith, omega arith)
-is_long number (Arith kind to left right) = (omega arith, omega arith)
-is_long number (Jump to) = (omega arith, omega arith)
-is_long number (JumpIf test left right to) = (omega arith, omega arith)
-is_long number (JumpEntry entry) = (omega arith, omega arith)
-is_long number (JumpReturn entry) = (omega arith, omega arith)
-is_long number (LoadField f to at) = (omega arith, omega arith)
-is_long number (StoreField field.A at from) = (omega arith, omega arith)
-is_long number (StoreField field.F at from) = (omega arith, omega arith)
-is_long number (StoreField field.V at from) = (omega arith, omega arith)
-is_long number (StoreCell at a f v) = (omega arith, omega arith)
-is_long number (LoadChar to at) = (omega arith, omega arith)
-is_long number (StoreChar at from) = (omega arith, omega arith)
-is_long number (LoadWord areas.State to at) = (omega arith, omega arith)
-is_long number (LoadWord areas.Scratch to at) = (omega arith, omega arith)
-is_long number (LoadWord areas.Tables to at) = (omega arith, omega arith)
-is_long number (LoadWord areas.Kind to at) = (omega arith, omega arith)
-is_long number (LoadWord areas.Bytes to at) = (omega arith, omega arith)
-is_long number (StoreWord areas.State at from) = (omega arith, omega arith)
-is_long number (StoreWord areas.Scratch at from) = (omega arith, omega arith)
-is_long number (StoreWord areas.Tables at from) = (omega arith, omega arith)
-is_long number (StoreWord areas.Kind at from) = (omega arith, omega arith)
-is_long number (StoreWord areas.Bytes at from) = (omega arith, omega arith)
-is_long number (UnitCall call unit to t v) = let a = text_short t in let b = values_short v in (omega arith, omega arith)
-is_long number (Begin k) = (omega arith, omega arith)
-is_long number (End by) = (omega arith, omega arith)
+is_long number (Const to value) =
+    let h = constant_by (is_short number) (is_word number) in
+    (h.0, h.1, omega arith)
+is_long number (Copy to from) = (omega arith, omega arith, omega arith)
+is_long number (Arith kind to left right) = (omega arith, omega arith, omega arith)
+is_long number (Jump to) = (omega arith, omega arith, omega arith)
+is_long number (JumpIf test left right to) = (omega arith, omega arith, omega arith)
+is_long number (JumpEntry entry) = (omega arith, omega arith, omega arith)
+is_long number (JumpReturn entry) = (omega arith, omega arith, omega arith)
+is_long number (LoadField f to at) = (omega arith, omega arith, omega arith)
+is_long number (StoreField field.A at from) = (omega arith, omega arith, omega arith)
+is_long number (StoreField field.F at from) = (omega arith, omega arith, omega arith)
+is_long number (StoreField field.V at from) = (omega arith, omega arith, omega arith)
+is_long number (StoreCell at a f v) = (omega arith, omega arith, omega arith)
+is_long number (LoadChar to at) = (omega arith, omega arith, omega arith)
+is_long number (StoreChar at from) = (omega arith, omega arith, omega arith)
+is_long number (LoadWord areas.State to at) = (omega arith, omega arith, omega arith)
+is_long number (LoadWord areas.Scratch to at) = (omega arith, omega arith, omega arith)
+is_long number (LoadWord areas.Tables to at) = (omega arith, omega arith, omega arith)
+is_long number (LoadWord areas.Kind to at) = (omega arith, omega arith, omega arith)
+is_long number (LoadWord areas.Bytes to at) = (omega arith, omega arith, omega arith)
+is_long number (StoreWord areas.State at from) = (omega arith, omega arith, omega arith)
+is_long number (StoreWord areas.Scratch at from) = (omega arith, omega arith, omega arith)
+is_long number (StoreWord areas.Tables at from) = (omega arith, omega arith, omega arith)
+is_long number (StoreWord areas.Kind at from) = (omega arith, omega arith, omega arith)
+is_long number (StoreWord areas.Bytes at from) = (omega arith, omega arith, omega arith)
+is_long number (UnitCall call unit to t v) = let a = text_short t in let b = values_short v in (omega arith, omega arith, omega arith)
+is_long number (Begin k) = (omega arith, omega arith, omega arith)
+is_long number (End by) = (omega arith, omega arith, omega arith)
 
 pub some_long : (settings : Settings) (statics : ℕ) (op : Op) → 0 < length_of settings statics op
 some_long settings statics op = (is_long (number_of settings statics op) op).0
 
 pub long_within : (settings : Settings) (statics : ℕ) (op : Op) → length_of settings statics op ≤ weight op
 long_within settings statics op = (is_long (number_of settings statics op) op).1
+
+pub few_within : (settings : Settings) (statics : ℕ) (op : Op) → length_of settings statics op ≤ 12
+few_within settings statics op = (is_long (number_of settings statics op) op).2
 
 -- all together
 pub sum_within : (settings : Settings) (statics : ℕ) (ops : List Op) → sum_by (length_of settings statics) ops ≤ weights ops
