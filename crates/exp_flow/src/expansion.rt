@@ -3,6 +3,7 @@ ghost use Rattle.std.specs.Prelude.{◌≡◌, ◌*◌, ◌<◌, ◌≤◌, OnOk
 ghost use Rattle.sil_macros.specs.MacroRows.{row};
 ghost use Rattle.sil_model.specs.Costs.{visits};
 ghost use Rattle.sil_model.specs.Fits.{fit};
+ghost use Rattle.sil_model.specs.Prints.{writes_records};
 ghost use Rattle.sil_model.specs.Table.{clause};
 ghost use Rattle.sil_micro.specs.Expands.{Expands};
 ghost use Rattle.sil_micro.specs.Pieces.{weights};
@@ -37,7 +38,7 @@ pub fn expand_flow(
     requires number { at < length code.old.entries }
     requires few { length code.old.entries ≤ MAX_STATEMENTS }
     requires light { weights code.old.ops ≤ MAX_PIECE_WEIGHT * at }
-    ensures { OnOk result (Expands code.old code.new at specials.now statement.now.args (clause statement.now.name) (visits statement.now.name)) }
+    ensures { OnOk result (Expands code.old code.new at specials.now statement.now.args (clause statement.now.name) (visits statement.now.name) (writes_records statement.now.name)) }
 {
     let _ = alloc;
     has_room(code, at);

@@ -1,10 +1,11 @@
 -- A code that grows statement by statement.
-use Rattle.std.proofs.Common.{◌≡◌, ℕ, zero, suc, ◌+◌, ◌*◌, ◌<◌, ◌≤◌, ◌==◌, List, [], ◌∷◌, ◌++◌, length, Option, Some, None, true, ◌&&◌, refl, ap, ◌∙◌, arith}
+use Rattle.std.proofs.Common.{◌≡◌, ℕ, zero, suc, ◌+◌, ◌*◌, ◌<◌, ◌≤◌, ◌==◌, List, [], ◌∷◌, ◌++◌, length, Option, Some, None, Bool, true, false, ◌&&◌, ◌||◌, refl, sym, ap, ◌∙◌, arith}
 use Rattle.std.proofs.lemmas.Bool.Decides.{nat_tests}
-use Rattle.std.specs.Prelude.{slice_get, if◌then◌else◌}
+use Rattle.std.specs.Prelude.{All, slice_get, if◌then◌else◌}
 use Rattle.sil_model.specs.declared.program.Program.{Program}
 use Rattle.sil_model.specs.declared.program.Statement.{Statement}
 use Rattle.sil_model.specs.Costs.{visits}
+use Rattle.sil_model.specs.Prints.{writes_records, IsSilent}
 use Rattle.sil_model.specs.Table.{clause}
 use Rattle.sil_micro.specs.declared.op.Op.{Op}
 use Rattle.sil_micro.specs.declared.op.Op.TheVariants.{Begin, Jump, JumpIf}
@@ -13,7 +14,7 @@ use Rattle.sil_micro.specs.declared.op.Target.TheVariants.{Op as Place, Statemen
 use Rattle.sil_micro.specs.Codes.{MicroCode, entry_of, return_of, targets_within, op_leads}
 use Rattle.sil_micro.specs.Expands.{Does, IsPiece}
 use Rattle.sil_micro.specs.Forms.{is_op, all_ops}
-use Rattle.sil_micro.specs.Pieces.{placed, placed_op, placed_target, target_within, op_within, fits_part, is_no_begin, begins_once, names_within, weights}
+use Rattle.sil_micro.specs.Pieces.{placed, placed_op, placed_target, target_within, op_within, fits_part, is_no_begin, is_quiet, begins_once, names_within, weights}
 use Rattle.sil_micro.proofs.Moved.{and_first, and_second, op_at}
 
 -- ---- lists
@@ -65,7 +66,7 @@ pub record Stands (c : MicroCode) (program : Program) (i k : ℕ) (statement : S
   pub entry : entry_of c k ≡ Some base
   pub each : (j : ℕ) (op : Op) → slice_get piece j ≡ Some op → slice_get c.ops (base + j) ≡ Some (placed_op base op)
   pub follows : place_so_far c i (k + 1) ≡ Some (base + length piece)
-  pub is_piece : IsPiece k (length c.entries) (length c.formats) piece
+  pub is_piece : IsPiece k (length c.entries) (length c.formats) (writes_records statement.name) piece
   pub does : Does k piece program.specials statement.args (clause statement.name) (visits statement.name)
 
 pub record SoFar (program : Program) (i : ℕ) (c : MicroCode) : Type 0 where
@@ -80,6 +81,7 @@ pub record SoFar (program : Program) (i : ℕ) (c : MicroCode) : Type 0 where
   pub returns : (k : ℕ) → return_of c k ≡ None
   pub jumps : all_ops (op_leads (length c.ops)) c.ops ≡ true
   pub names : all_ops (names_within (length c.entries) (length c.formats)) c.ops ≡ true
+  pub quiet : IsSilent program → all_ops is_quiet c.ops ≡ true
   pub light : weights c.ops ≤ 12000 * i
   pub each : (k : ℕ) (statement : Statement) → k < i → slice_get program.statements k ≡ Some statement → Stands c program i k statement
 
@@ -119,3 +121,18 @@ names_placed statements formats b (Jump (ToStatement k)) h = h
 names_placed statements formats b (JumpIf test left right (Place q)) h = refl
 names_placed statements formats b (JumpIf test left right (ToStatement k)) h = h
 names_placed statements formats b _ h = h
+
+pub quiet_placed : (b : ℕ) (op : Op) → is_quiet op ≡ true → is_quiet (placed_op b op) ≡ true
+quiet_placed b (Jump to) h = refl
+quiet_placed b (JumpIf test left right to) h = refl
+quiet_placed b _ h = h
+
+-- a macro that writes nothing has a piece that doesn't
+pub quiet_piece : (prints : Bool) (ops : List Op) → prints ≡ false → (prints || all_ops is_quiet ops) ≡ true → all_ops is_quiet ops ≡ true
+quiet_piece prints ops e h = sym (ap (λ b. b || all_ops is_quiet ops) e) ∙ h
+
+-- what is said of all is said of the one at a place
+pub silent_at : (statements : List Statement) (k : ℕ) (statement : Statement) → All (λ s. writes_records s.name ≡ false) statements → slice_get statements k ≡ Some statement → writes_records statement.name ≡ false
+silent_at [] k statement h e = absurd (cc)
+silent_at (s ∷ statements) zero statement h e = let same : s ≡ statement = cc in ap (λ x. writes_records x.name) (sym same) ∙ h 0 s refl
+silent_at (s ∷ statements) (suc k) statement h e = silent_at statements k statement (λ i x g. h (suc i) x g) e

@@ -1,5 +1,5 @@
 -- One statement more.
-use Rattle.std.proofs.Common.{◌≡◌, ◌≢◌, ℕ, ◌+◌, ◌-◌, ◌*◌, ◌<◌, ◌≤◌, ◌==◌, List, length, Some, None, true, refl, sym, ap, ◌∙◌, subst, arith, length-append}
+use Rattle.std.proofs.Common.{◌≡◌, ◌≢◌, ℕ, ◌+◌, ◌-◌, ◌*◌, ◌<◌, ◌≤◌, ◌==◌, List, length, Some, None, Bool, true, false, refl, sym, ap, ◌∙◌, subst, arith, length-append}
 use Rattle.std.proofs.Math.ListN.{length-set}
 use Rattle.std.proofs.lemmas.Bool.Decides.{nat_tests}
 use Rattle.std.proofs.lemmas.Option.{slice_get_within, same_Some}
@@ -8,6 +8,7 @@ use Rattle.sil_base.specs.declared.limits.TheConstants.{MAX_STATEMENTS}
 use Rattle.sil_model.specs.declared.program.Program.{Program}
 use Rattle.sil_model.specs.declared.program.Statement.{Statement}
 use Rattle.sil_model.specs.Costs.{visits}
+use Rattle.sil_model.specs.Prints.{writes_records, IsSilent}
 use Rattle.sil_model.specs.Table.{clause}
 use Rattle.sil_model.proofs.Places.{set_here, set_there}
 use Rattle.sil_micro.specs.declared.op.Op.{Op}
@@ -15,11 +16,11 @@ use Rattle.sil_micro.specs.declared.op.Op.TheVariants.{Begin}
 use Rattle.sil_micro.specs.Codes.{MicroCode, appended, begun, entry_of, told, op_leads}
 use Rattle.sil_micro.specs.Expands.{Does, Expands, IsPiece}
 use Rattle.sil_micro.specs.Forms.{all_ops}
-use Rattle.sil_micro.specs.Pieces.{placed, placed_op, fits_part, names_within, weights}
+use Rattle.sil_micro.specs.Pieces.{placed, placed_op, fits_part, is_quiet, names_within, weights}
 use Rattle.sil_micro.proofs.Making.{by_test}
 use Rattle.sil_micro.proofs.Parts.{all_alike, all_append, length_placed, weights_append, weights_placed}
 use Rattle.macro_expand.specs.Expanded.{IsExpansion}
-use Rattle.macro_expand.proofs.Growing.{get_left, get_front, get_right, get_placed, begin_placed, first_begin, all_longer, part_leads, names_placed, place_so_far, Stands, SoFar}
+use Rattle.macro_expand.proofs.Growing.{get_left, get_front, get_right, get_placed, begin_placed, first_begin, all_longer, part_leads, names_placed, quiet_placed, quiet_piece, silent_at, place_so_far, Stands, SoFar}
 
 by_equal : {P : Type 0} (k i : ℕ) → (k ≡ i → P) → (k ≢ i → P) → P
 by_equal k i same other = by_test (nat_eq k i) (λ yes. same (grind (arith, nat_tests, yes))) (λ no. other (λ e. let yes : nat_eq k i ≡ true = grind (arith, nat_tests, e) in absurd (cc)))
@@ -30,7 +31,7 @@ place_here c i k e = let yes : (k == i) ≡ true = grind (arith, nat_tests, e) i
 pub place_there : (c : MicroCode) (i k : ℕ) → k ≢ i → place_so_far c i k ≡ entry_of c k
 place_there c i k ne = by_test (k == i) (λ yes. let e : k ≡ i = grind (arith, nat_tests, yes) in absurd (ne e)) (λ no. ap (λ b. if b then Some (length c.ops) else entry_of c k) no)
 
-module _ (program : Program) (i : ℕ) (c : MicroCode) (before : SoFar program i c) (here : i < length program.statements) (piece : List Op) (is_piece : IsPiece i (length c.entries) (length c.formats) piece) where
+module _ (program : Program) (i : ℕ) (c : MicroCode) (before : SoFar program i c) (here : i < length program.statements) (piece : List Op) (prints : Bool) (is_piece : IsPiece i (length c.entries) (length c.formats) prints piece) where
   abbrev pub next : MicroCode
   next = appended (begun i c) piece
 
@@ -111,8 +112,12 @@ module _ (program : Program) (i : ℕ) (c : MicroCode) (before : SoFar program i
   still_light : weights next.ops ≤ 12000 * (i + 1)
   still_light = omega (arith, weights_append c.ops more, weights_placed (length c.ops) piece, before.light, is_piece.light)
 
-  same_piece : (k : ℕ) (ops : List Op) → IsPiece k (length c.entries) (length c.formats) ops → IsPiece k (length next.entries) (length next.formats) ops
-  same_piece k ops is = subst (λ n. IsPiece k n (length c.formats) ops) (sym same_count) is
+  still_quiet : prints ≡ false → IsSilent program → all_ops is_quiet next.ops ≡ true
+  unfolding placed
+  still_quiet no silent = all_append is_quiet c.ops more (before.quiet silent) (all_alike is_quiet is_quiet (placed_op (length c.ops)) (quiet_placed (length c.ops)) piece (quiet_piece prints piece no is_piece.quiet))
+
+  same_piece : (k : ℕ) (p : Bool) (ops : List Op) → IsPiece k (length c.entries) (length c.formats) p ops → IsPiece k (length next.entries) (length next.formats) p ops
+  same_piece k p ops is = subst (λ n. IsPiece k n (length c.formats) p ops) (sym same_count) is
 
   follows_still : (k e : ℕ) → place_so_far c i (k + 1) ≡ Some e → k ≢ i → place_so_far next (i + 1) (k + 1) ≡ Some e
   follows_still k e was ne =
@@ -127,23 +132,23 @@ module _ (program : Program) (i : ℕ) (c : MicroCode) (before : SoFar program i
     entry = entry_there k ne ∙ x.entry;
     each = λ j op e. get_left c.ops more (x.base + j) (placed_op x.base op) (x.each j op e);
     follows = follows_still k (x.base + length x.piece) x.follows ne;
-    is_piece = same_piece k x.piece x.is_piece;
+    is_piece = same_piece k (writes_records statement.name) x.piece x.is_piece;
     does = x.does;
   }
 
-  latest : (statement : Statement) → Does i piece program.specials statement.args (clause statement.name) (visits statement.name) → Stands next program (i + 1) i statement
-  latest statement does = record {
+  latest : (statement : Statement) → prints ≡ writes_records statement.name → Does i piece program.specials statement.args (clause statement.name) (visits statement.name) → Stands next program (i + 1) i statement
+  latest statement as does = record {
     base = length c.ops;
     piece = piece;
     entry = entry_here;
     each = λ j op e. get_right c.ops more j ∙ get_placed (length c.ops) piece j op e;
     follows = place_here next (i + 1) (i + 1) refl ∙ ap (λ n. Some n) count;
-    is_piece = same_piece i piece is_piece;
+    is_piece = subst (λ p. IsPiece i (length next.entries) (length next.formats) p piece) as (same_piece i prints piece is_piece);
     does = does;
   }
 
-  pub one_more : (statement : Statement) → slice_get program.statements i ≡ Some statement → Does i piece program.specials statement.args (clause statement.name) (visits statement.name) → SoFar program (i + 1) next
-  one_more statement is does = record {
+  pub one_more : (statement : Statement) → slice_get program.statements i ≡ Some statement → prints ≡ writes_records statement.name → Does i piece program.specials statement.args (clause statement.name) (visits statement.name) → SoFar program (i + 1) next
+  one_more statement is as does = record {
     statements = same_count ∙ before.statements;
     static_cells = before.static_cells;
     formats = before.formats;
@@ -155,19 +160,20 @@ module _ (program : Program) (i : ℕ) (c : MicroCode) (before : SoFar program i
     returns = before.returns;
     jumps = still_jumps;
     names = still_names;
+    quiet = λ silent. still_quiet (as ∙ silent_at program.statements i statement silent is) silent;
     light = still_light;
     each = λ k s lt e. by_equal k i
         (λ same.
         let at : slice_get program.statements i ≡ Some s = ap (λ j. slice_get program.statements j) (sym same) ∙ e in
         let this : statement ≡ s = same_Some statement s (sym is ∙ at) in
-        subst (λ j. Stands next program (i + 1) j s) (sym same) (subst (λ t. Stands next program (i + 1) i t) this (latest statement does)))
+        subst (λ j. Stands next program (i + 1) j s) (sym same) (subst (λ t. Stands next program (i + 1) i t) this (latest statement as does)))
         (λ ne. earlier k s ne (before.each k s (omega (arith, lt, ne)) e));
   }
 
 -- a statement's expansion is one statement more
 pub step : (program : Program) (i : ℕ) (old new : MicroCode) (statement : Statement) → SoFar program i old → i < length program.statements → slice_get program.statements i ≡ Some statement →
-    Expands old new i program.specials statement.args (clause statement.name) (visits statement.name) → SoFar program (i + 1) new
-step program i old new statement before here is x = subst (λ c. SoFar program (i + 1) c) (sym x.stands) (one_more program i old before here x.piece x.is_piece statement is x.does)
+    Expands old new i program.specials statement.args (clause statement.name) (visits statement.name) (writes_records statement.name) → SoFar program (i + 1) new
+step program i old new statement before here is x = subst (λ c. SoFar program (i + 1) c) (sym x.stands) (one_more program i old before here x.piece (writes_records statement.name) x.is_piece statement is refl x.does)
 
 -- all statements
 pub whole : (program : Program) (c : MicroCode) → length program.statements ≤ MAX_STATEMENTS → SoFar program (length program.statements) c → IsExpansion program c
@@ -185,6 +191,7 @@ whole program c few x = record {
   statements = x.statements;
   static_cells = x.static_cells;
   formats = x.formats;
+  quiet = x.quiet;
   each = λ k statement e.
       let s = x.each k statement (slice_get_within program.statements k statement e) e in
       record {

@@ -10,11 +10,14 @@ use Rattle.sil_model.specs.declared.program.Statement.{Statement}
 use Rattle.sil_model.specs.Costs.{visits}
 use Rattle.sil_model.specs.Machine.{machine}
 use Rattle.sil_model.specs.Start.{first_state}
+use Rattle.sil_model.specs.Prints.{writes_records, IsSilent}
 use Rattle.sil_model.specs.Table.{clause}
 use Rattle.sil_micro.specs.declared.op.Op.{Op}
 use Rattle.sil_micro.specs.Codes.{MicroCode, IsWhole, entry_of, setting_of}
 use Rattle.sil_micro.specs.Expands.{Does, IsPiece}
+use Rattle.sil_micro.specs.Forms.{all_ops}
 use Rattle.sil_micro.specs.Laws.{StandsAt}
+use Rattle.sil_micro.specs.Pieces.{is_quiet}
 use Rattle.sil_micro.specs.MicroRuns.{RunsTo}
 use Rattle.exp_descr.specs.Group.{is_descr}
 use Rattle.exp_flow.specs.Group.{is_flow}
@@ -32,15 +35,16 @@ pub record HasPiece (c : MicroCode) (specials : Specials) (k : ℕ) (statement :
   pub piece : List Op
   pub entry : entry_of c k ≡ Some base
   pub stands : StandsAt c base (k + 1) piece
-  pub is_piece : IsPiece k (length c.entries) (length c.formats) piece
+  pub is_piece : IsPiece k (length c.entries) (length c.formats) (writes_records statement.name) piece
   pub does : Does k piece specials statement.args (clause statement.name) (visits statement.name)
 
--- a whole code with the program's data and a piece for each statement
+-- a whole code with the program's data and a piece for each statement, which writes no record where no statement does
 pub record IsExpansion (program : Program) (c : MicroCode) : Type 0 where
   pub whole : IsWhole c
   pub statements : length c.entries ≡ length program.statements
   pub static_cells : c.static_cells ≡ length program.cells
   pub formats : c.formats ≡ program.formats
+  pub quiet : IsSilent program → IsTrue (all_ops is_quiet c.ops)
   pub each : (k : ℕ) (statement : Statement) → slice_get program.statements k ≡ Some statement → HasPiece c program.specials k statement
 
 -- for all tapes and steps the code's run comes to the end, the tapes and the statements met of the program's run

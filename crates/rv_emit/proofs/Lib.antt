@@ -1,28 +1,15 @@
-mod Places
-mod Words
-mod Registers
-mod Steps
-mod Begin
-mod Check
-mod Loads
-mod Cells
-mod Exits
-mod WideNumbers
-mod Adds
-mod Copies
-mod Tested
-mod Written
-mod Incra
-mod Movd
-mod Endex
-pub mod HasCode
-mod Past
-mod Stores
-mod Start
-pub mod FirstMemory
-mod Standing
-mod Stack
-pub mod Carries
-mod AreInstrs
-mod Wide
-mod Rising
+pub mod Parted
+pub mod Sums
+pub mod Words
+pub mod Lengths
+pub mod RoutineWords
+pub mod Weights
+pub mod Placed
+pub mod Entries
+pub mod WholeParts
+pub mod OpParts
+pub mod Ops
+pub mod OpPlaces
+pub mod Steps
+pub mod CodeWords
+pub mod Rising

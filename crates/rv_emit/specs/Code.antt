@@ -1,140 +1,160 @@
--- The instructions of statements, in the standard layout.
-use Rattle.std.specs.Prelude.{ℕ, ◌+◌, ◌-◌, ◌*◌, ◌/◌, ◌%◌, ◌^◌, ℤ, pos, negsuc, List, [], ◌∷◌, ◌++◌, length, map}
-use Rattle.std.specs.List.{flat_map}
-use Rattle.std.specs.Int.{w64, cast_unsigned}
-use Rattle.rv_isa.specs.declared.instr.ROp.TheVariants.{Add, Sltu}
-use Rattle.rv_isa.specs.declared.instr.IOp.TheVariants.{Addi, Slli, Ld, Lbu}
-use Rattle.rv_isa.specs.declared.instr.SOp.TheVariants.{Sb, Sd}
-use Rattle.rv_isa.specs.declared.instr.BOp.TheVariants.{Beq, Bne}
+-- The instructions of a whole code: the start, the shared routines, the two routines that jump by an entry with their tables, the operations, and the end past the last statement.
+use Rattle.std.specs.Prelude.{ℕ, zero, suc, ◌+◌, ◌*◌, ◌/◌, pos, List, [], ◌∷◌, ◌++◌, length, take, sum_by, Option, Some, None, ℤ}
+use Rattle.std.specs.Option.{option_map}
+use Rattle.rv_isa.specs.declared.instr.IOp.TheVariants.{Addi}
+use Rattle.rv_isa.specs.declared.instr.SOp.TheVariants.{Sd}
 use Rattle.rv_isa.specs.declared.instr.UOp.TheVariants.{Lui}
 use Rattle.rv_isa.specs.declared.instr.Instr.{Instr}
-use Rattle.rv_isa.specs.declared.instr.Instr.TheVariants.{R, I, S, B, U, Ecall}
-use Rattle.rv_isa.specs.InstrWords.{word_of}
-use Rattle.rv_isa.specs.Decoded.{signed}
+use Rattle.rv_isa.specs.declared.instr.Instr.TheVariants.{I, S, U, Ecall}
+use Rattle.sil_base.specs.declared.places.TheConstants.{FIRST_WORD}
+use Rattle.layout_params.specs.Areas.{all_cells, empty_stack}
+use Rattle.layout_params.specs.declared.cell.Field.TheVariants.{F, V}
 use Rattle.layout_params.specs.Parameters.{Settings}
-use Rattle.sil_base.specs.declared.places.TheConstants.{FIRST_CELL, FIRST_WORD, FIRST_KIND, FIRST_SCRATCH}
-use Rattle.sil_macros.specs.declared.names.Macro.{Macro}
-use Rattle.sil_macros.specs.declared.names.Macro.TheVariants.{Endex, Incra, Movd}
-use Rattle.sil_model.specs.declared.program.Arg.{Arg}
-use Rattle.sil_model.specs.declared.program.Arg.TheVariants.{Place, Number}
-use Rattle.sil_model.specs.declared.program.Program.{Program}
-use Rattle.sil_model.specs.declared.program.Statement.{Statement}
-use Rattle.layout_params.specs.Areas.{empty_stack}
-
--- the lower 12 bits of a number with their sign, and the upper ones, one more where the lower part is negative; of a number below 2^31 - 2^11 LUI and ADDI make it
-abbrev pub upper_of : ℕ → ℕ
-upper_of n = (n + 2 ^ 11) / 2 ^ 12
-
-abbrev pub lower_of : ℕ → ℤ
-lower_of n = signed 11 (n % 2 ^ 12)
-
--- a number of at most 31 bits, in a register
-abbrev pub constant : ℕ → ℕ → List Instr
-constant rd n = U Lui rd (upper_of n) ∷ I Addi rd rd (lower_of n) ∷ []
-
--- twelve bits more: the upper part of a number, which is in a register, is shifted, and the lower part added
-abbrev pub joined_to : ℕ → ℕ → List Instr
-joined_to rd n = I Slli rd rd (pos 12) ∷ I Addi rd rd (lower_of n) ∷ []
-
--- any number of 64 bits, in a register
-abbrev pub wide_constant : ℕ → ℕ → List Instr
-wide_constant rd n =
-    constant rd (upper_of (upper_of (upper_of n))) ++ joined_to rd (upper_of (upper_of n)) ++ joined_to rd (upper_of n) ++ joined_to rd n
-
--- call 1 with a number of at most 11 bits
-abbrev pub end_call : ℕ → List Instr
-end_call n = I Addi 10 0 (pos n) ∷ I Addi 17 0 (pos 1) ∷ Ecall ∷ []
-
--- statement k begins: its number is set; where no step is left the run ends so, else one is taken
-unfoldable pub begin_code : ℕ → List Instr
-begin_code k = constant 26 k ++ B Bne 27 0 (pos 16) ∷ end_call 4 ++ I Addi 27 27 (negsuc 0) ∷ []
-
--- the place of the kind byte of the cell at an address
-abbrev pub kind_place : ℕ → ℕ
-kind_place at = FIRST_KIND + (at - FIRST_CELL) / 16
-
--- where the cell at an address is no descriptor the run ends as undefined
-unfoldable pub check_code : ℕ → List Instr
-check_code at = constant 5 (kind_place at) ++ I Lbu 6 5 (pos 0) ∷ B Beq 6 0 (pos 16) ∷ end_call 3
-
--- an exit by the A field of the descriptor at an address
-unfoldable pub exit_part : ℕ → List Instr
-exit_part at = constant 5 at ++ I Ld 6 5 (pos 0) ∷ R Sltu 10 0 6 ∷ I Addi 17 0 (pos 1) ∷ Ecall ∷ []
-
--- a number of 64 bits is added to the A field of the descriptor at an address
-unfoldable pub add_part : ℕ → ℕ → List Instr
-add_part at n = constant 5 at ++ I Ld 6 5 (pos 0) ∷ wide_constant 7 n ++ R Add 6 6 7 ∷ S Sd 5 6 (pos 0) ∷ []
-
--- the descriptor at an address is copied to the cell at another, which becomes a descriptor
-unfoldable pub copy_part : ℕ → ℕ → List Instr
-copy_part to from =
-    constant 5 from ++ I Ld 6 5 (pos 0) ∷ I Ld 7 5 (pos 8) ∷ constant 5 to ++ S Sd 5 6 (pos 0) ∷ S Sd 5 7 (pos 8) ∷ constant 5 (kind_place to) ++ S Sb 5 0 (pos 0) ∷ []
+use Rattle.layout_params.specs.Sizes.{Sizes}
+use Rattle.sil_micro.specs.declared.op.Op.{Op}
+use Rattle.sil_micro.specs.Codes.{MicroCode, place_of, return_of}
+use Rattle.sil_micro.specs.Operations.{scratch_words}
+use Rattle.rv_straight.specs.Constants.{upper_of, lower_of}
+use Rattle.rv_straight.specs.Jumps.{leap_code}
+use Rattle.rv_routines.specs.FieldCodes.{bits_of}
+use Rattle.rv_routines.specs.RoutineCodes.{check_routine, fit_routine, open_routine, char_routine, word_routine, below_routine, make_routine, kind_routine, state_routine}
+use Rattle.rv_operations.specs.declared.places.Routines.{Routines}
+use Rattle.rv_operations.specs.declared.places.Site.{Site}
+use Rattle.rv_operations.specs.OpCodes.{instructions}
+use Rattle.rv_operations.specs.Links.{links_of}
+use Rattle.rv_operations.specs.CodePlaces.{Places}
+pub use Rattle.rv_operations.specs.Ops.{number_of, length_of}
+use Rattle.rv_operations.specs.Switch.{switch_code, led}
 
 -- an integer that is not negative
 abbrev pub natural_of : ℤ → ℕ
 natural_of (pos n) = n
-natural_of (negsuc n) = 0
+natural_of _ = 0
 
--- what follows the beginning of a statement
-abbrev pub body_of : Macro → List Arg → List Instr
-body_of Endex (Place d ∷ []) = check_code (natural_of d) ++ exit_part (natural_of d)
-body_of Incra (Place d ∷ Number n ∷ []) = check_code (natural_of d) ++ add_part (natural_of d) (cast_unsigned w64 n)
-body_of Movd (Place d1 ∷ Place d2 ∷ []) = check_code (natural_of d2) ++ copy_part (natural_of d1) (natural_of d2)
-body_of _ _ = []
+-- ---- the start
 
-abbrev pub code_of : ℕ → Statement → List Instr
-code_of k statement = begin_code k ++ body_of statement.name statement.args
+-- the address of the cell before the stack goes into the first two words of scratch, and the run to a place
+abbrev pub start_code : ℕ → ℕ → List Instr
+start_code top to =
+    U Lui 28 0x6_C000
+    ∷ U Lui 29 (upper_of top)
+    ∷ I Addi 29 29 (lower_of top)
+    ∷ S Sd 28 29 (pos 0)
+    ∷ S Sd 28 29 (pos 8)
+    ∷ leap_code 28 0 (FIRST_WORD + 20) to
 
--- the place after the last statement, where the run ends as undefined
-unfoldable pub past_code : ℕ → List Instr
-past_code count = constant 26 count ++ end_call 3
+-- ---- the routines
 
--- the start: current and previous are stored
-unfoldable pub start_code : ℕ → List Instr
-start_code top = constant 5 FIRST_SCRATCH ++ constant 6 top ++ S Sd 5 6 (pos 0) ∷ S Sd 5 6 (pos 8) ∷ []
+abbrev pub first_routine : ℕ
+first_routine = FIRST_WORD + 28
 
--- the codes of statements, counted from k on
-abbrev pub codes_from : ℕ → List Statement → List (List Instr)
-codes_from k [] = []
-codes_from k (statement ∷ statements) = code_of k statement ∷ codes_from (k + 1) statements
+-- those of cells of d bytes, one after another; the tables of so many statements stand behind the routines that jump by an entry
+abbrev pub routines_at : ℕ → ℕ → Routines
+routines_at d statements = record {
+  check = first_routine;
+  fit_f = first_routine + 68;
+  fit_v = first_routine + 144;
+  open_cell = first_routine + 220;
+  chars = first_routine + 300;
+  word = first_routine + 360;
+  below_scratch = first_routine + 428;
+  below_cells = first_routine + 456;
+  below_state = first_routine + 484;
+  state = first_routine + 512;
+  make = first_routine + 568;
+  kind = first_routine + 648 + 4 * (d / 8);
+  entry = first_routine + 712 + 8 * (d / 8);
+  return_part = first_routine + 776 + 8 * (d / 8) + 8 * statements;
+}
 
--- one code after another
-abbrev pub joined_codes : List (List Instr) → List Instr
-joined_codes codes = flat_map (λ code. code) codes
+-- the place of the first operation
+abbrev pub first_op : ℕ → ℕ → ℕ
+first_op d statements = first_routine + 840 + 8 * (d / 8) + 16 * statements
 
--- the places at which codes begin, the first of them here; and the place after them
-abbrev pub places_from : ℕ → List (List Instr) → List ℕ
-places_from place [] = []
-places_from place (code ∷ codes) = place ∷ places_from (place + 4 * length code) codes
+-- the instructions of the routines over so many cells
+abbrev pub routines_code : Sizes → ℕ → List Instr
+routines_code sizes cells =
+    check_routine sizes.descr cells
+    ++ fit_routine (bits_of sizes F) sizes.descr cells
+    ++ fit_routine (bits_of sizes V) sizes.descr cells
+    ++ open_routine (bits_of sizes F) (bits_of sizes V) sizes.descr cells
+    ++ char_routine sizes.descr cells
+    ++ word_routine sizes.descr cells
+    ++ below_routine scratch_words
+    ++ below_routine cells
+    ++ below_routine 3
+    ++ state_routine
+    ++ make_routine sizes.descr cells
+    ++ kind_routine sizes.descr cells
 
-abbrev pub place_after : ℕ → List (List Instr) → ℕ
-place_after place [] = place
-place_after place (code ∷ codes) = place_after (place + 4 * length code) codes
+-- ---- the routines that jump by an entry
 
-abbrev pub stack_top : Program → Settings → ℕ
-stack_top program settings = natural_of (empty_stack settings (length program.cells))
+-- from here on the jumps of statement k and of those that follow, so many, of the routine at a place
+abbrev pub table_code : ℕ → (ℕ → Option ℕ) → ℕ → ℕ → ℕ → List Instr
+table_code routine places here k zero = []
+table_code routine places here k (suc more) = leap_code 28 0 here (led routine (places k)) ++ table_code routine places (here + 8) (suc k) more
 
--- all instructions of statements, with this place of the empty stack
-abbrev pub whole_code : ℕ → List Statement → List Instr
-whole_code top statements =
-    start_code top ++ joined_codes (codes_from 0 statements) ++ past_code (length statements)
+-- the routine at a place, and its table behind it
+abbrev pub switch_part : ℕ → ℕ → ℕ → (ℕ → Option ℕ) → List Instr
+switch_part d statements routine places = switch_code d statements routine (routine + 64) ++ table_code routine places (routine + 64) 0 statements
 
--- the place of statement 0
-abbrev pub first_entry : ℕ → ℕ
-first_entry top = FIRST_WORD + 4 * length (start_code top)
+-- ---- the operations
 
-abbrev pub words_of : ℕ → List Statement → List ℕ
-words_of top statements = map word_of (whole_code top statements)
+-- where the operation of a number stands; past the last one, the place after all of them
+unfoldable pub op_place : Settings → MicroCode → ℕ → ℕ
+op_place settings c q = first_op settings.sizes.descr (length c.entries) + 4 * sum_by (length_of settings c.static_cells) (take q c.ops)
 
-abbrev pub places_of : ℕ → List Statement → List ℕ
-places_of top statements = places_from (first_entry top) (codes_from 0 statements)
+-- the place of an operation that a statement begins with, and of none the place after all operations
+abbrev pub place_from : Settings → MicroCode → Option ℕ → ℕ
+place_from settings c None = op_place settings c (length c.ops)
+place_from settings c (Some q) = op_place settings c q
 
--- the words of a program, the places of its statements, and the place after the last
-abbrev pub emitted_words : Program → Settings → List ℕ
-emitted_words program settings = words_of (stack_top program settings) program.statements
+abbrev pub places_of : Settings → MicroCode → Places
+places_of settings c = record {
+  op = op_place settings c;
+  statement = λ k. place_from settings c (place_of c k);
+  returns = λ k. option_map (op_place settings c) (return_of c k);
+  routines = routines_at settings.sizes.descr (length c.entries);
+}
 
-abbrev pub emitted_places : Program → Settings → List ℕ
-emitted_places program settings = places_of (stack_top program settings) program.statements
+-- where an operation stands, and what it is linked to
+abbrev pub site_of : Settings → MicroCode → ℕ → Op → Site
+site_of settings c place op = record {
+  routines = routines_at settings.sizes.descr (length c.entries);
+  links = links_of settings c.static_cells c.formats (places_of settings c) op;
+  place = place;
+}
 
-abbrev pub last_place : Program → Settings → ℕ
-last_place program settings = place_after (first_entry (stack_top program settings)) (codes_from 0 program.statements)
+-- the instructions of these operations, the first of which stands here
+abbrev pub ops_code : Settings → MicroCode → ℕ → List Op → List Instr
+ops_code settings c place [] = []
+ops_code settings c place (op ∷ ops) = instructions settings.sizes (site_of settings c place op) op ++ ops_code settings c (place + 4 * length_of settings c.static_cells op) ops
+
+-- ---- the end past the last statement, and the whole
+
+-- the number of statements is that of the current one, and the run ends as undefined
+abbrev pub past_code : ℕ → List Instr
+past_code count =
+    U Lui 26 (upper_of count)
+    ∷ I Addi 26 26 (lower_of count)
+    ∷ I Addi 17 0 (pos 1)
+    ∷ I Addi 10 0 (pos 3)
+    ∷ Ecall
+    ∷ []
+
+abbrev pub stack_top : Settings → MicroCode → ℕ
+stack_top settings c = natural_of (empty_stack settings c.static_cells)
+
+abbrev pub last_place : Settings → MicroCode → ℕ
+last_place settings c = op_place settings c (length c.ops)
+
+-- what stands before the operations
+abbrev pub front_code : Settings → MicroCode → List Instr
+front_code settings c =
+    start_code (stack_top settings c) (place_from settings c (place_of c 0))
+    ++ routines_code settings.sizes (all_cells settings c.static_cells)
+    ++ switch_part settings.sizes.descr (length c.entries) (routines_at settings.sizes.descr (length c.entries)).entry (λ k. Some (place_from settings c (place_of c k)))
+    ++ switch_part settings.sizes.descr (length c.entries) (routines_at settings.sizes.descr (length c.entries)).return_part (places_of settings c).returns
+
+unfoldable pub whole_code : Settings → MicroCode → List Instr
+whole_code settings c = front_code settings c ++ ops_code settings c (first_op settings.sizes.descr (length c.entries)) c.ops ++ past_code (length c.entries)

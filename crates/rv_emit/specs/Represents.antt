@@ -2,14 +2,15 @@
 use Rattle.std.specs.Prelude.{◌≡◌, ℕ, ◌+◌, ◌*◌, ◌<◌, ◌^◌, List, length, Some, slice_get, slice_index}
 use Rattle.std.specs.List.{flat_map}
 use Rattle.std.specs.Int.{w64, cast_unsigned}
-use Rattle.sil_base.specs.Bytes.{number, piece, AreBytes}
+use Rattle.sil_base.specs.Bytes.{number, piece}
 use Rattle.layout_params.specs.declared.cell.Cell.{Cell}
 use Rattle.layout_params.specs.Sizes.{Sizes}
 use Rattle.layout_params.specs.Packing.{IsPacked}
 use Rattle.layout_params.specs.Parameters.{Settings}
 use Rattle.sil_model.specs.States as machine
 use Rattle.sil_model.specs.CellWords.{kind_of}
-use Rattle.rv_emit.specs.Parts.{table_part}
+use Rattle.rv_operations.specs.EntryBytes.{table_part}
+use Rattle.rv_routines.specs.Holds.{HoldsBytes}
 use Rattle.sil_base.specs.declared.limits.TheConstants.{SCRATCH_BYTES}
 use Rattle.rv_emulate.specs.EmulatorMemory.{Memory}
 use Rattle.rv_emulate.specs.EmulatorStates.{State, register, steps_left}
@@ -20,13 +21,6 @@ pub record PackedCells (sizes : Sizes) (cells : List Cell) (m : Memory) : Type 0
   pub kinds_size : length m.kinds ≡ length cells
   pub packed : (i : ℕ) (cell : Cell) → slice_get cells i ≡ Some cell → IsPacked sizes cell (piece (i * sizes.descr) sizes.descr m.cells)
   pub kinds : (i : ℕ) (cell : Cell) → slice_get cells i ≡ Some cell → slice_get m.kinds i ≡ Some (kind_of cell)
-
--- all regions hold bytes
-pub record HoldsBytes (m : Memory) : Type 0 where
-  pub cells : AreBytes m.cells
-  pub kinds : AreBytes m.kinds
-  pub tables : AreBytes m.tables
-  pub scratch : AreBytes m.scratch
 
 -- the words that keep current and previous are the first two of the scratch region
 pub record KeepsStack (m : machine.State) (memory : Memory) : Type 0 where

@@ -13,46 +13,17 @@ use Rattle.sil_model.specs.Start.{first_state}
 use Rattle.sil_model.specs.Machine.{make_step}
 use Rattle.sil_model.specs.Costs.{cost}
 use Rattle.sil_model.specs.Valid.{IsValid}
-use Rattle.sil_model.specs.Prints.{writes_records}
 use Rattle.sil_base.specs.declared.places.TheConstants.{FIRST_WORD}
 use Rattle.image_file.specs.Image.{Image}
-use Rattle.rv_emulate.specs.declared.end.CpuEnd.{CpuEnd}
-use Rattle.rv_emulate.specs.declared.end.CpuEnd.TheVariants.{Exit, Trap, Undefined, UnitFault, Budget, Memory}
 use Rattle.rv_emulate.specs.EmulatorStates.{State, Outcome, On, Ended, start}
-use Rattle.rv_emulate.specs.EmulatorSteps.{step}
-use Rattle.rv_emulate.specs.EmulatorRuns.{run, entry_at}
-use Rattle.rv_emulate.specs.AlongRuns.{Along, Calls}
+use Rattle.rv_emulate.specs.EmulatorRuns.{entry_at}
+use Rattle.rv_straight.specs.InstalledWays.{Comes}
+use Rattle.rv_operations.specs.Does.{as_end}
 use Rattle.rv_emit.specs.Represents.{Represents}
-
--- the machine's end in the emulator's words; no other end of the emulator is the same as one of the machine
-abbrev pub as_end : End → CpuEnd
-as_end (ends.Exit code) = Exit code
-as_end (ends.Trap k) = Trap k
-as_end (ends.Undefined k) = Undefined k
-as_end (ends.UnitFault k unit) = UnitFault k unit
-as_end ends.Budget = Budget
-as_end ends.Memory = Memory
 
 -- the place of statement k, and past the last statement the place after it
 abbrev pub place : Image → ℕ → ℕ → ℕ
 place image last k = slice_index_or (map (λ e. e.place) image.statements) k last
-
--- the pc is no statement's place, and not the place after the last
-abbrev pub IsBetween : Image → ℕ → State → Type 0
-IsBetween image last s = (entry_at image.statements s.pc ≡ None) × (s.pc ≢ last)
-
--- call 3 is made only where it may be
-abbrev pub Permits : Image → Bool → State → Type 0
-Permits image true s = Unit {0}
-Permits image false s = Calls image 3 s → ⊥
-
--- after 1 to `most` instructions the run from s is at o; strictly between it is at no statement's place; and it makes call 3 only where it may
-pub record Comes (image : Image) (last : ℕ) (prints : Bool) (most : ℕ) (s : State) (o : Outcome) : Type 0 where
-  pub more : ℕ
-  pub soon : suc more ≤ most
-  pub comes : run image (suc more) s ≡ o
-  pub between : Along image (IsBetween image last) more (step image s)
-  pub calls : Along image (Permits image prints) (suc more) (On s)
 
 -- the run from s comes to the place of m's statement, in a state that stands for m
 abbrev pub ComesTo : Image → Settings → ℕ → ℕ → Bool → ℕ → State → machine.State → Type 0
@@ -67,13 +38,13 @@ abbrev pub Makes : Image → Settings → ℕ → ℕ → Bool → ℕ → State
 Makes image settings last n prints most s (Goes m) = ComesTo image settings last n prints most s m
 Makes image settings last n prints most s (Ends e tapes) = EndsAs image last prints most s e tapes
 
--- the code carries out each statement, from each state that stands for a valid one
-pub record CarriesOut (image : Image) (program : Program) (parameters : Parameters) (last : ℕ) : Type 0 where
+-- the code carries out each statement, from each state that stands for a valid one, and makes call 3 only where it may
+pub record CarriesOut (image : Image) (program : Program) (parameters : Parameters) (last : ℕ) (prints : Bool) : Type 0 where
   pub entries : (k : ℕ) → k < length program.statements → entry_at image.statements (place image last k) ≡ Some k
   pub beyond : (k : ℕ) → length program.statements ≤ k → place image last k ≡ last
   pub last_apart : entry_at image.statements last ≡ None
   pub first_apart : (entry_at image.statements FIRST_WORD ≡ None) × (FIRST_WORD ≢ last)
   pub begins : (tapes : Tapes) (n : ℕ) → n ≤ MAX_STEPS → ComesTo image parameters.settings last n false STATEMENT_INSTRUCTIONS (start image tapes n) (first_state program parameters.settings tapes)
-  pub statement : (n : ℕ) (m : machine.State) (s : State) (st : Statement) → n ≤ MAX_STEPS → slice_get program.statements m.statement ≡ Some st → IsValid program parameters.settings m → m.steps < n → s.pc ≡ place image last m.statement → Represents parameters.settings n m s → Makes image parameters.settings last n (writes_records st.name) (cost program parameters st m) s (make_step program parameters st m)
+  pub statement : (n : ℕ) (m : machine.State) (s : State) (st : Statement) → n ≤ MAX_STEPS → slice_get program.statements m.statement ≡ Some st → IsValid program parameters.settings m → m.steps < n → s.pc ≡ place image last m.statement → Represents parameters.settings n m s → Makes image parameters.settings last n prints (cost program parameters st m) s (make_step program parameters st m)
   pub bound : (n : ℕ) (m : machine.State) (s : State) → n ≤ MAX_STEPS → m.statement < length program.statements → IsValid program parameters.settings m → m.steps ≡ n → s.pc ≡ place image last m.statement → Represents parameters.settings n m s → EndsAs image last false STATEMENT_INSTRUCTIONS s (Some ends.Budget) m.tapes
   pub past : (n : ℕ) (m : machine.State) (s : State) → n ≤ MAX_STEPS → m.statement ≡ length program.statements → IsValid program parameters.settings m → s.pc ≡ last → Represents parameters.settings n m s → EndsAs image last false STATEMENT_INSTRUCTIONS s (Some (ends.Undefined m.statement)) m.tapes

@@ -1,34 +1,60 @@
-// The words of whole programs.
-ghost use Rattle.std.specs.Prelude.{◌≡◌, ◌-◌, ◌<◌, ◌≤◌, ◌^◌, length, All, IfOk};
+// The words of whole codes.
+ghost use Rattle.std.specs.Prelude.{◌≡◌, ◌+◌, ◌*◌, ◌≤◌, length, IfOk};
 ghost use Rattle.std.specs.List.{flat_map};
-ghost use Rattle.layout_params.specs.Areas.{all_cells, empty_stack};
-ghost use Rattle.sil_model.specs.Built.{AreStatic};
-ghost use Rattle.rv_emit.specs.Code.{natural_of, emitted_places, emitted_words, last_place, places_of, words_of};
-ghost use Rattle.rv_emit.specs.Emits.{CanEmit, Carries, FitsImage};
+ghost use Rattle.rv_emit.specs.Emits.{CanEmit, Carries, FitsImage, op_places, statement_places, words_of};
+ghost use Rattle.rv_emit.specs.Planned.{IsPlanned};
 
-use crate::statements::{append_past, append_start, append_statement};
+use crate::front::{append_front, past_code};
+use crate::law::law_of_emission;
+use crate::operations::{append_ops, op_places};
+use crate::plan::Plan;
 use layout_params::{Layout, Params};
-use sil_base::{FIRST_CELL, FIRST_WORD, Items, MAX_CELLS, MAX_STATEMENTS, Record};
-use sil_model::{Program, Statement};
+use rv_operations::{law_of_lengths, law_of_op_words};
+use rv_straight::append_words;
+use sil_base::{Items, Record};
+use sil_micro::Code;
 use std::alloc::{AllocError, Global};
 
-/// The code words of a program, the places of its statements, and its constants.
+/// The code words of a code, the places of its statements, the places of its operations and last the
+/// place after all of them, and the texts of its formats one after another.
 #[derive(Drop)]
 pub struct Emitted {
     pub words: Items<u32>,
     pub places: Items<u64>,
+    pub ops: Items<u64>,
     pub constants: Items<u8>,
 }
 
-/// The address of the cell before the stack of a program with so many static cells.
-fn top_of(statics: u64, params: &Params) -> u32
-    requires { all_cells params.now.settings statics ≤ MAX_CELLS }
-    ensures { result ≡ natural_of (empty_stack params.now.settings statics) }
+/// The code words.
+fn code_words<L: Layout>(
+    alloc: Global,
+    plan: &Plan<'_>,
+    layout: &L,
+) -> Result<Vec<u32>, AllocError>
+    requires plan { IsPlanned plan.now.params.now.settings plan.now.code.now plan.now.ops.now }
+    requires layout { L.sizes layout.now ≡ plan.now.params.now.settings.sizes }
+    ensures { IfOk result (λ words. words.items ≡ words_of plan.now.params.now.settings plan.now.code.now) }
 {
-    let descr = params.numbers().descr();
-    let hidden = (20 + descr - 1) / descr;
-    let below = statics + hidden + params.dynamic_size();
-    (FIRST_CELL + below * descr - descr) as u32
+    law_of_op_words();
+    let mut instrs = Vec::new(alloc);
+    append_front(&mut instrs, plan, layout)?;
+    append_ops(&mut instrs, plan, layout)?;
+    instrs.extend_from_slice(&past_code(plan.code.statements() as u32))?;
+    let mut words = Vec::new(alloc);
+    append_words(&mut words, instrs.as_slice())?;
+    Ok(words)
+}
+
+/// The places of statements.
+fn statement_places(alloc: Global, plan: &Plan<'_>) -> Result<Vec<u64>, AllocError>
+    requires { IsPlanned plan.now.params.now.settings plan.now.code.now plan.now.ops.now }
+    ensures { IfOk result (λ places. places.items ≡ statement_places plan.now.params.now.settings plan.now.code.now) }
+{
+    let mut places = Vec::new(alloc);
+    for k in 0..plan.code.statements() as u32 {
+        places.push(u64::from(plan.statement(k)))?;
+    }
+    Ok(places)
 }
 
 /// The texts of formats, one after another.
@@ -42,53 +68,39 @@ fn joined(alloc: Global, formats: &[Record]) -> Result<Vec<u8>, AllocError>
     Ok(bytes)
 }
 
-/// The words and the places of a program that can be emitted, which carry it out.
-pub fn emit(alloc: Global, program: &Program, params: &Params) -> Result<Emitted, AllocError>
-    requires { CanEmit program.now params.now.settings }
-    ensures words { IfOk result (λ e. e.words ≡ emitted_words program.now params.now.settings) }
-    ensures places { IfOk result (λ e. e.places ≡ emitted_places program.now params.now.settings) }
-    ensures count { IfOk result (λ e. length e.places ≡ length program.now.statements) }
-    ensures constants { IfOk result (λ e. e.constants ≡ flat_map (λ text. text) program.now.formats) }
-    ensures carries { IfOk result (λ e. Carries program.now params.now e.words e.places (last_place program.now params.now.settings)) }
+/// The words and the places of a code that can be emitted, which carry its operations out.
+pub fn emit<L: Layout>(
+    alloc: Global,
+    code: &Code,
+    layout: &L,
+    params: &Params,
+) -> Result<Emitted, AllocError>
+    requires layout { L.sizes layout.now ≡ params.now.settings.sizes }
+    requires can { CanEmit code.now params.now.settings }
+    ensures words { IfOk result (λ e. e.words ≡ words_of params.now.settings code.now) }
+    ensures places { IfOk result (λ e. e.places ≡ statement_places params.now.settings code.now) }
+    ensures ops { IfOk result (λ e. e.ops ≡ op_places params.now.settings code.now) }
+    ensures constants { IfOk result (λ e. e.constants ≡ flat_map (λ text. text) code.now.formats) }
+    ensures length { IfOk result (λ e. length e.words ≤ 12 * length code.now.ops + 4 * length code.now.entries + 2000) }
     ensures image { IfOk result (λ e. FitsImage e.words e.places) }
+    ensures carries { IfOk result (λ e. Carries params.now.settings code.now e.words e.places) }
 {
-    let statics = program.cells.items().len();
-    let (words, places) = emit_code(
-        alloc,
-        program.statements.items(),
-        top_of(statics as u64, params),
-        statics,
-    )?;
-    let constants = joined(alloc, program.formats.items())?;
+    law_of_lengths();
+    law_of_op_words();
+    law_of_emission();
+    let ops = op_places(alloc, code, layout, params)?;
+    let plan = Plan {
+        code,
+        params,
+        ops: ops.as_slice(),
+    };
+    let words = code_words(alloc, &plan, layout)?;
+    let places = statement_places(alloc, &plan)?;
+    let constants = joined(alloc, code.formats())?;
     Ok(Emitted {
         words: Items::of(words),
         places: Items::of(places),
+        ops: Items::of(ops),
         constants: Items::of(constants),
     })
-}
-
-/// The words of statements over so many static cells, between the start and the end, and their
-/// places.
-fn emit_code(
-    alloc: Global,
-    statements: &[Statement],
-    top: u32,
-    statics: usize,
-) -> Result<(Vec<u32>, Vec<u64>), AllocError>
-    requires count { length statements.now ≤ MAX_STATEMENTS }
-    requires top { top < 2 ^ 31 - 2 ^ 11 }
-    requires few { statics ≤ MAX_CELLS }
-    requires code { All (λ s. AreStatic 16 statics s.args) statements.now }
-    ensures words { IfOk result (λ r. r.0.items ≡ words_of top statements.now) }
-    ensures places { IfOk result (λ r. r.1.items ≡ places_of top statements.now) }
-{
-    let mut words = Vec::new(alloc);
-    let mut places = Vec::new(alloc);
-    append_start(&mut words, top)?;
-    for (k, statement) in statements.iter().enumerate() {
-        places.push(FIRST_WORD + 4 * words.len() as u64)?;
-        append_statement(&mut words, k as u32, statement, statics)?;
-    }
-    append_past(&mut words, statements.len() as u32)?;
-    Ok((words, places))
 }

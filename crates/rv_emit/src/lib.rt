@@ -1,15 +1,13 @@
-// From statements to the words of the installed code.
+// From micro code to the words of RV64IM.
 #![tactic(auto)]
 
-mod append;
-mod bodies;
-mod codes;
-mod constants;
 mod emitted;
-mod instrs;
+mod front;
 mod law;
+mod links;
 mod operations;
-mod statements;
+mod plan;
+mod switches;
 
 pub use emitted::{Emitted, emit};
 pub use law::law_of_emission;

@@ -1,75 +1,90 @@
-// The words that follow the beginning of a statement.
-ghost use Rattle.std.specs.Prelude.{◌≡◌, ◌+◌, ◌-◌, ◌++◌, ◌<◌, ◌≤◌, ◌^◌, map, OnOk};
-ghost use Rattle.rv_isa.specs.InstrWords.{word_of};
-ghost use Rattle.sil_model.specs.Built.{AreStatic};
-ghost use Rattle.rv_emit.specs.Code.{add_part, body_of, check_code, copy_part, exit_part};
+// The places of operations, and their instructions.
+ghost use Rattle.std.specs.Prelude.{◌≡◌, ◌++◌, ◌<◌, ◌≤◌, ◌^◌, IfOk, OnOk};
+ghost use Rattle.rv_operations.specs.OpCodes.{op_length};
+ghost use Rattle.rv_operations.specs.OpSites.{HasRules, IsBegun};
+ghost use Rattle.rv_emit.specs.Emits.{CanEmit};
+ghost use Rattle.rv_emit.specs.Planned.{IsPlanned, operations_of};
 
-use crate::append::append;
-use crate::bodies::{add_instrs, check_instrs, copy_instrs, exit_instrs};
-use sil_base::{FIRST_CELL, MAX_CELLS};
-use sil_macros::Macro;
-use sil_model::{Arg, Statement};
-use std::alloc::AllocError;
+use crate::links::{links_of, number_links, number_of};
+use crate::plan::{Plan, first_op, routines_at};
+use layout_params::{Layout, Params};
+use rv_isa::Instr;
+use rv_operations::{Site, append_op, law_of_lengths};
+use sil_micro::{Code, Op};
+use std::alloc::{AllocError, Global};
 
-/// Appends the test that the static cell at an address is a descriptor.
-fn append_check(words: &mut Vec<u32>, at: u32) -> Result<(), AllocError>
-    requires first { FIRST_CELL ≤ at }
-    requires last { at < FIRST_CELL + 2 ^ 24 }
-    ensures { OnOk result (words.new.items ≡ words.old.items ++ map word_of (check_code at)) }
+/// How many instructions an operation has, which rests on its number alone: as many as it has at
+/// place 0. They are written into a scratch.
+fn length_of<L: Layout>(
+    scratch: &mut Vec<Instr>,
+    layout: &L,
+    number: u64,
+    op: Op,
+) -> Result<usize, AllocError>
+    requires rules { HasRules op }
+    requires begun { IsBegun op }
+    ensures { IfOk result (λ n. n ≡ op_length number op) }
 {
-    append(words, &check_instrs(at))
+    law_of_lengths();
+    let site = Site {
+        routines: routines_at(16, 0),
+        links: number_links(number),
+        place: 0,
+    };
+    scratch.clear();
+    append_op(scratch, layout, &site, op)?;
+    Ok(scratch.len())
 }
 
-/// Appends an exit by the A field of the static cell at an address.
-fn append_exit(words: &mut Vec<u32>, at: u32) -> Result<(), AllocError>
-    requires first { FIRST_CELL ≤ at }
-    requires last { at < FIRST_CELL + 2 ^ 24 }
-    ensures { OnOk result (words.new.items ≡ words.old.items ++ map word_of (check_code at ++ exit_part at)) }
+/// The places of operations, and last the place after all of them.
+pub fn op_places<L: Layout>(
+    alloc: Global,
+    code: &Code,
+    layout: &L,
+    params: &Params,
+) -> Result<Vec<u64>, AllocError>
+    requires { CanEmit code.now params.now.settings }
+    ensures { IfOk result (λ places. IsPlanned params.now.settings code.now places.items) }
 {
-    append_check(words, at)?;
-    append(words, &exit_instrs(at))
-}
-
-/// Appends the sum of a number of 64 bits and the A field of the static cell at an address.
-fn append_add(words: &mut Vec<u32>, at: u32, n: u64) -> Result<(), AllocError>
-    requires first { FIRST_CELL ≤ at }
-    requires last { at < FIRST_CELL + 2 ^ 24 }
-    ensures { OnOk result (words.new.items ≡ words.old.items ++ map word_of (check_code at ++ add_part at n)) }
-{
-    append_check(words, at)?;
-    append(words, &add_instrs(at, n))
-}
-
-/// Appends a copy of the static cell at an address to the cell at another.
-fn append_copy(words: &mut Vec<u32>, to: u32, from: u32) -> Result<(), AllocError>
-    requires first_to { FIRST_CELL ≤ to }
-    requires last_to { to < FIRST_CELL + 2 ^ 24 }
-    requires first_from { FIRST_CELL ≤ from }
-    requires last_from { from < FIRST_CELL + 2 ^ 24 }
-    ensures { OnOk result (words.new.items ≡ words.old.items ++ map word_of (check_code from ++ copy_part to from)) }
-{
-    append_check(words, from)?;
-    append(words, &copy_instrs(to, from))
-}
-
-/// Appends what follows the beginning of a statement over so many static cells.
-pub fn append_body(
-    words: &mut Vec<u32>,
-    statement: &Statement,
-    statics: usize,
-) -> Result<(), AllocError>
-    requires few { statics ≤ MAX_CELLS }
-    requires code { AreStatic 16 statics statement.now.args }
-    ensures { OnOk result (words.new.items ≡ words.old.items ++ map word_of (body_of statement.now.name statement.now.args)) }
-{
-    match (statement.name, statement.args.items()) {
-        (Macro::Endex, [Arg::Place(at)]) => append_exit(words, *at as u32),
-        (Macro::Incra, [Arg::Place(at), Arg::Number(n)]) => {
-            append_add(words, *at as u32, n.cast_unsigned())
-        }
-        (Macro::Movd, [Arg::Place(to), Arg::Place(from)]) => {
-            append_copy(words, *to as u32, *from as u32)
-        }
-        _ => Ok(()),
+    let statics = u64::from(code.static_cells());
+    let mut scratch = Vec::new(alloc);
+    let mut places = Vec::new(alloc);
+    let mut place = u64::from(first_op(
+        params.numbers().descr() as u32,
+        code.statements() as u32,
+    ));
+    let ops = code.ops();
+    for op in ops {
+        places.push(place)?;
+        let number = number_of(params, statics, *op);
+        place += 4 * length_of(&mut scratch, layout, number, *op)? as u64;
     }
+    places.push(place)?;
+    Ok(places)
+}
+
+/// Appends the operations, each where it stands.
+pub fn append_ops<L: Layout>(
+    code: &mut Vec<Instr>,
+    plan: &Plan<'_>,
+    layout: &L,
+) -> Result<(), AllocError>
+    requires plan { IsPlanned plan.now.params.now.settings plan.now.code.now plan.now.ops.now }
+    requires layout { L.sizes layout.now ≡ plan.now.params.now.settings.sizes }
+    ensures { OnOk result (code.new.items ≡ code.old.items ++ operations_of plan.now.params.now.settings plan.now.code.now) }
+{
+    let routines = routines_at(
+        plan.params.numbers().descr() as u32,
+        plan.code.statements() as u32,
+    );
+    let ops = plan.code.ops();
+    for (q, op) in ops.iter().enumerate() {
+        let site = Site {
+            routines,
+            links: links_of(plan, *op),
+            place: plan.op(q as u32),
+        };
+        append_op(code, layout, &site, *op)?;
+    }
+    Ok(())
 }

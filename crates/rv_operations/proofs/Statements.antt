@@ -21,7 +21,7 @@ use Rattle.rv_straight.proofs.Numbers.{constant_is}
 use Rattle.rv_straight.proofs.Reaching.{start, straight, passes, branches, ends, ends_by, ends_now, runs, knows}
 use Rattle.rv_operations.specs.CodePlaces.{Places}
 use Rattle.rv_operations.specs.OpCodes.{begin_code, end_code}
-use Rattle.rv_operations.specs.Does.{Does, Begins}
+use Rattle.rv_operations.specs.Does.{Does, Begins, BeginsAnew}
 use Rattle.rv_operations.specs.Laws.{LawOfBegin, LawOfEnd}
 use Rattle.rv_operations.proofs.Standing.{stands_begun}
 use Rattle.rv_operations.proofs.Doing.{moves_from}
@@ -39,7 +39,7 @@ above_zero left h = grind arith
 one_less : (n : ℕ) → 0 < n → n < 2 ^ 64 → sum64 n (2 ^ 64 - 1) ≡ n - 1
 one_less n h lt = omega arith
 
-module _ {image : Image} {last : ℕ} {g : Setting} (places : Places) (k : ℕ) {u : Micro} {s : State} (small : k < 2 ^ 31 - 2 ^ 11) (known : k ≤ length image.statements) (b : Begins image last g (begin_code k) u s) where
+module _ {image : Image} {last : ℕ} {g : Setting} (places : Places) (k : ℕ) {u : Micro} {s : State} (small : k < 2 ^ 31 - 2 ^ 11) (known : k ≤ length image.statements) (b : BeginsAnew image last g (begin_code k) u s) where
   abbrev xs : List ℕ
   xs = s.registers
 

@@ -50,6 +50,13 @@ Does image last g places prints most next s (Over (Some end) u) = Comes image la
 Does image last g places prints most next s (Over None u) = Unit {0}
 Does image last g places prints most next s Stuck = Unit {0}
 
+-- the words of a Begin are what a state runs next that stands for u, in which any number may stand as that of the statement
+pub record BeginsAnew (image : Image) (last : ℕ) (g : Setting) (instrs : List Instr) (u : Micro) (s : State) : Type 0 where
+  pub settings : AreLegalSettings g.settings
+  pub stands : StandsFor g u s
+  pub code : IsNext image last s instrs
+  pub even : s.pc % 4 ≡ 0
+
 -- the words of an operation are what a state runs next that stands for u
 pub record Begins (image : Image) (last : ℕ) (g : Setting) (instrs : List Instr) (u : Micro) (s : State) : Type 0 where
   pub settings : AreLegalSettings g.settings

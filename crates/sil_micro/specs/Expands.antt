@@ -1,5 +1,5 @@
 -- What the expansion of a statement is to do.
-use Rattle.std.specs.Prelude.{◌≡◌, ℕ, ◌+◌, ◌*◌, ◌≤◌, List, length, nat_lt, IsTrue, Some, slice_get, All}
+use Rattle.std.specs.Prelude.{◌≡◌, ℕ, ◌+◌, ◌*◌, ◌≤◌, Bool, ◌||◌, List, length, nat_lt, IsTrue, Some, slice_get, All}
 use Rattle.sil_base.specs.declared.limits.TheConstants.{STATEMENT_INSTRUCTIONS, VISIT_INSTRUCTIONS}
 use Rattle.layout_params.specs.Parameters.{Parameters}
 use Rattle.sil_model.specs.declared.program.Arg.{Arg}
@@ -18,7 +18,7 @@ use Rattle.sil_micro.specs.declared.op.Op.{Op}
 use Rattle.sil_micro.specs.declared.op.Op.TheVariants.{Begin}
 use Rattle.sil_micro.specs.Codes.{MicroCode, appended, begun}
 use Rattle.sil_micro.specs.Forms.{all_ops}
-use Rattle.sil_micro.specs.Pieces.{is_part, names_within, begins_once, weights}
+use Rattle.sil_micro.specs.Pieces.{is_part, names_within, begins_once, is_quiet, weights}
 use Rattle.sil_micro.specs.MicroStates.{Setting, Micro}
 use Rattle.sil_micro.specs.MicroWays.{Way, Came, Ended, way}
 
@@ -67,17 +67,18 @@ Does k piece specials args clause visits =
     (g : Setting) (program : Program) (parameters : Parameters) (u : Micro) → CanBegin g program parameters specials k args u →
     Makes g (k + 1) piece 0 u (settle (at k u.state) (clause (site_at program parameters k args) (at k u.state))) (cost_at args visits (site_at program parameters k args) (at k u.state))
 
--- the operations of statement k, in a code of so many statements and formats
-pub record IsPiece (k statements formats : ℕ) (piece : List Op) : Type 0 where
+-- the operations of statement k, in a code of so many statements and formats; they write records only where its macro does
+pub record IsPiece (k statements formats : ℕ) (prints : Bool) (piece : List Op) : Type 0 where
   pub part : IsTrue (is_part piece)
   pub begins : slice_get piece 0 ≡ Some (Begin k)
   pub once : IsTrue (begins_once piece)
   pub names : IsTrue (all_ops (names_within statements formats) piece)
+  pub quiet : IsTrue (prints || all_ops is_quiet piece)
   pub light : weights piece ≤ MAX_PIECE_WEIGHT
 
 -- the code has the entry of statement k and a piece more, and the piece makes the statement's step
-pub record Expands (old new : MicroCode) (k : ℕ) (specials : Specials) (args : List Arg) (clause : Site → State → Effect) (visits : Site → State → ℕ) : Type 0 where
+pub record Expands (old new : MicroCode) (k : ℕ) (specials : Specials) (args : List Arg) (clause : Site → State → Effect) (visits : Site → State → ℕ) (prints : Bool) : Type 0 where
   pub piece : List Op
   pub stands : new ≡ appended (begun k old) piece
-  pub is_piece : IsPiece k (length old.entries) (length old.formats) piece
+  pub is_piece : IsPiece k (length old.entries) (length old.formats) prints piece
   pub does : Does k piece specials args clause visits

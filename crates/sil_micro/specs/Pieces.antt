@@ -1,5 +1,5 @@
 -- Pieces: the operations of one statement, whose places count from the first of them.
-use Rattle.std.specs.Prelude.{ℕ, ◌+◌, List, [], ◌∷◌, ◌++◌, length, map, Bool, true, false, ◌&&◌, nat_lt, nat_le}
+use Rattle.std.specs.Prelude.{ℕ, zero, suc, ◌+◌, List, [], ◌∷◌, ◌++◌, length, map, Bool, true, false, ◌&&◌, nat_lt, nat_le}
 use Rattle.sil_micro.specs.declared.op.Target.{Target}
 use Rattle.sil_micro.specs.declared.op.Target.TheVariants.{Op as Place, Statement}
 use Rattle.sil_micro.specs.declared.op.Text.TheVariants.{Format}
@@ -65,6 +65,11 @@ names_within statements formats op = true
 abbrev pub is_no_begin : Op → Bool
 is_no_begin (Begin k) = false
 is_no_begin op = true
+
+-- an operation that writes no record is none with call 3
+abbrev pub is_quiet : Op → Bool
+is_quiet (UnitCall (suc (suc (suc zero))) unit to text values) = false
+is_quiet op = true
 
 -- no operation but the first is a Begin
 abbrev pub begins_once : List Op → Bool

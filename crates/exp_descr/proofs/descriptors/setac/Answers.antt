@@ -16,7 +16,7 @@ returns c =
     record {
       piece = _;
       stands = stands;
-      is_piece = record { part = refl; begins = refl; once = refl; names = refl; light = lit≤ tt };
+      is_piece = record { part = refl; begins = refl; once = refl; names = refl; quiet = refl; light = lit≤ tt };
       does = λ g program parameters u h.
           let m = u.state.memory in
           by_option (set_a_at m c.args.d c.args.n) (λ none. record { fuel = 5; meets = simp (h.left, none) (refl, refl, lit≤ tt) }) (λ after set.

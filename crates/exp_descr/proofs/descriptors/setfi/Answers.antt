@@ -22,7 +22,7 @@ returns c =
     record {
       piece = _;
       stands = stands;
-      is_piece = record { part = refl; begins = refl; once = refl; names = refl; light = lit≤ tt };
+      is_piece = record { part = refl; begins = refl; once = refl; names = refl; quiet = refl; light = lit≤ tt };
       does = λ g program parameters u h.
           let m = u.state.memory in
           let flags : c.args.flags < 2 ^ 32 = c.ranges.flags.fits in

@@ -16,7 +16,7 @@ returns c =
     record {
       piece = _;
       stands = stands;
-      is_piece = record { part = refl; begins = refl; once = refl; names = refl; light = lit≤ tt };
+      is_piece = record { part = refl; begins = refl; once = refl; names = refl; quiet = refl; light = lit≤ tt };
       does = λ g program parameters u h.
           by_option (descr_at u.state.memory c.args.d) (λ none. record { fuel = 8; meets = simp (h.left, none) (refl, refl, lit≤ tt) }) (λ d is.
           by_zero d.a (λ zero. record { fuel = 8; meets = simp (h.left, is, zero) (refl, refl, lit≤ tt) }) (λ differs code. record { fuel = 8; meets = simp (h.left, is, differs, code) (refl, refl, lit≤ tt) }));
