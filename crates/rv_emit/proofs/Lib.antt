@@ -8,3 +8,13 @@ pub mod Placed
 pub mod Entries
 pub mod WholeParts
 pub mod OpParts
+pub mod Emitted
+pub mod Free
+pub mod Standing
+pub mod Targets
+pub mod Routines
+pub mod Linked
+pub mod Start
+pub mod Past
+pub mod Carrying
+pub mod Carries
