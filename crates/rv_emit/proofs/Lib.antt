@@ -8,7 +8,7 @@ pub mod Placed
 pub mod Entries
 pub mod WholeParts
 pub mod OpParts
-pub mod Emitted
+pub mod Images
 pub mod Free
 pub mod Standing
 pub mod Targets
