@@ -1,7 +1,8 @@
 // How tables lie in an image: sixteen bytes for each entry.
 ghost use Rattle.std.specs.Prelude.{◌≡◌, ◌++◌, IfOk, OnOk};
 ghost use Rattle.std.specs.List.{flat_map};
-ghost use Rattle.rv_emit.specs.Parts.{action_number, next_table, put_flag, put_value};
+ghost use Rattle.sil_micro.specs.TableWords.{action_number, next_table, puts};
+ghost use Rattle.rv_operations.specs.EntryBytes.{put_value};
 ghost use Rattle.sil_install.specs.TableBytes.{entry_bytes, bytes_of};
 
 use image_file::table_entry;
@@ -33,7 +34,7 @@ fn next_table(action: Action) -> u16
 
 /// Whether there is a PUT.
 fn put_flag(put: Option<i64>) -> u8
-    ensures { result ≡ put_flag put }
+    ensures { result ≡ puts put }
 {
     match put {
         Some(_) => 1,
