@@ -1,0 +1,11 @@
+pub mod Arithmetic
+pub mod ScratchWords
+pub mod JoinedParts
+pub mod StackPlaces
+pub mod Starts
+pub mod AddressLists
+pub mod GatherLoop
+pub mod ScatterLoop
+pub mod CellMoves
+pub mod Pushing
+pub mod Popping

@@ -1,0 +1,10 @@
+// The expansions of the macros of the stack into micro operations.
+#![tactic(auto)]
+
+mod addresses;
+mod expansion;
+mod heads;
+mod moves;
+mod stack;
+
+pub use expansion::{expand_stack, is_stack};
