@@ -18,7 +18,7 @@ use Rattle.exp_stack.proofs.ScratchWords.{HoldsAt, holds_below}
 use Rattle.exp_stack.proofs.GatherLoop.{gather_goes, gather_part, before_gather}
 use Rattle.exp_stack.proofs.ScatterLoop.{scatter_goes, scatter_part}
 
-finish_part : (statements formats : ℕ) → IsPart statements formats 28 finish_code
+pub finish_part : (statements formats : ℕ) → IsPart statements formats 28 finish_code
 finish_part statements formats = record { part = refl; begins = refl; names = refl; quiet = refl; weight = refl }
 
 pub writes_part : (statements formats count : ℕ) → IsPart statements formats 248 (joined (scatter_code count) finish_code)

@@ -9,3 +9,9 @@ pub mod ScatterLoop
 pub mod CellMoves
 pub mod Pushing
 pub mod Popping
+pub mod SpecWords
+pub mod SpecGather
+pub mod SpecScatter
+pub mod SpecMoves
+pub mod SpecPushing
+pub mod SpecPopping

@@ -69,3 +69,35 @@ finish_code = StoreWord StateWords 4 12 ∷ []
 -- all are read, all are written, and the top is set
 abbrev pub moves_code : ℕ → List Op
 moves_code count = joined (gather_code 200 count) (joined (scatter_code count) finish_code)
+
+-- ---- specifiers, of two cells each
+
+-- those at the sources are read, into five words each
+unfoldable pub spec_gather_code : ℕ → List Op
+spec_gather_code count =
+    Const 1 (Number (pos 0)) ∷ Const 2 (Number (pos 200)) ∷ Const 3 (Number (pos count)) ∷ Const 13 Descr
+    ∷ JumpIf Eq 3 4 (Place 25) ∷ LoadWord Scratch 6 1 ∷ LoadField A 7 6 ∷ LoadField F 8 6 ∷ LoadField V 9 6
+    ∷ StoreWord Scratch 2 7 ∷ Arith Add 2 2 5 ∷ StoreWord Scratch 2 8 ∷ Arith Add 2 2 5 ∷ StoreWord Scratch 2 9 ∷ Arith Add 2 2 5
+    ∷ Arith Add 6 6 13 ∷ LoadField A 7 6 ∷ LoadField V 9 6
+    ∷ StoreWord Scratch 2 7 ∷ Arith Add 2 2 5 ∷ StoreWord Scratch 2 9 ∷ Arith Add 2 2 5
+    ∷ Arith Add 1 1 5 ∷ Arith Sub 3 3 5 ∷ Jump (Place 4) ∷ []
+
+-- they are written to the targets; register 13 has the size of a cell
+unfoldable pub spec_scatter_code : ℕ → List Op
+spec_scatter_code count =
+    Const 1 (Number (pos 100)) ∷ Const 2 (Number (pos 200)) ∷ Const 3 (Number (pos count))
+    ∷ JumpIf Eq 3 4 (Place 21) ∷ LoadWord Scratch 6 1
+    ∷ LoadWord Scratch 7 2 ∷ Arith Add 2 2 5 ∷ LoadWord Scratch 8 2 ∷ Arith Add 2 2 5 ∷ LoadWord Scratch 9 2 ∷ Arith Add 2 2 5
+    ∷ StoreCell 6 7 8 9 ∷ Arith Add 6 6 13
+    ∷ LoadWord Scratch 7 2 ∷ Arith Add 2 2 5 ∷ LoadWord Scratch 9 2 ∷ Arith Add 2 2 5
+    ∷ StoreCell 6 7 4 9 ∷ Arith Add 1 1 5 ∷ Arith Sub 3 3 5 ∷ Jump (Place 3) ∷ []
+
+abbrev pub spec_moves_code : ℕ → List Op
+spec_moves_code count = joined (spec_gather_code count) (joined (spec_scatter_code count) finish_code)
+
+-- twice the distance; from the top down also the first cell of the first specifier
+abbrev pub double_up : List Op
+double_up = Arith Add 11 11 11 ∷ []
+
+abbrev pub double_down : List Op
+double_down = Arith Add 10 10 11 ∷ Arith Add 11 11 11 ∷ []

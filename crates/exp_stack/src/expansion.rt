@@ -1,7 +1,7 @@
 // The expansion of a statement whose macro is one of the stack.
 ghost use Rattle.std.specs.Prelude.{◌≡◌, ◌*◌, ◌<◌, ◌≤◌, ◌∷◌, [], All, OnOk, IsTrue, length};
 ghost use Rattle.sil_macros.specs.MacroRows.{row};
-ghost use Rattle.sil_macros.specs.OperandPlaces.{DD};
+ghost use Rattle.sil_macros.specs.OperandPlaces.{DD, SS};
 ghost use Rattle.sil_model.specs.Costs.{visits};
 ghost use Rattle.sil_model.specs.Fits.{fit};
 ghost use Rattle.sil_model.specs.Prints.{writes_records};
@@ -12,7 +12,7 @@ ghost use Rattle.sil_micro.specs.Pieces.{weights};
 ghost use Rattle.exp_stack.specs.Allowed.{AreAmong, HasFewItems};
 ghost use Rattle.exp_stack.specs.Group.{is_stack};
 
-use crate::stack::{pop, push};
+use crate::stack::{pop, push, spop, spush};
 use sil_base::MAX_STATEMENTS;
 use sil_macros::Macro;
 use sil_micro::{Code, MAX_PIECE_WEIGHT, has_room};
@@ -23,7 +23,7 @@ use std::alloc::{AllocError, Global};
 pub fn is_stack(name: Macro) -> bool
     ensures { result ≡ is_stack name }
 {
-    matches!(name, Macro::Pop | Macro::Push)
+    matches!(name, Macro::Pop | Macro::Push | Macro::Spop | Macro::Spush)
 }
 
 /// Expands statement number `at`. After an error the code may have a part of the statement's
@@ -51,6 +51,8 @@ pub fn expand_stack(
     match statement.name {
         Macro::Pop => pop(code, at, specials, descriptors(args)),
         Macro::Push => push(code, at, specials, descriptors(args)),
+        Macro::Spop => spop(code, at, specials, specifiers(args)),
+        Macro::Spush => spush(code, at, specials, specifiers(args)),
         _ => unreachable!(),
     }
 }
@@ -58,6 +60,19 @@ pub fn expand_stack(
 /// The items of a list of descriptors.
 fn descriptors(args: &[Arg]) -> &[i64]
     requires shape { IsTrue (fit (DD ∷ []) args.now) }
+    requires items { All HasFewItems args.now }
+    ensures value { args.now ≡ Places result.now ∷ [] }
+    ensures few { length result.now ≤ 40 }
+{
+    match args {
+        [Arg::Places(places)] => places.items(),
+        _ => unreachable!(),
+    }
+}
+
+/// The items of a list of specifiers.
+fn specifiers(args: &[Arg]) -> &[i64]
+    requires shape { IsTrue (fit (SS ∷ []) args.now) }
     requires items { All HasFewItems args.now }
     ensures value { args.now ≡ Places result.now ∷ [] }
     ensures few { length result.now ≤ 40 }

@@ -5,6 +5,7 @@ mod addresses;
 mod expansion;
 mod heads;
 mod moves;
+mod specifiers;
 mod stack;
 
 pub use expansion::{expand_stack, is_stack};

@@ -1,0 +1,87 @@
+// Specifiers that are read, and then written.
+ghost use Rattle.std.specs.Prelude.{◌≡◌, ◌+◌, ◌<◌, ◌^◌, OnOk, length};
+ghost use Rattle.sil_micro.specs.Codes.{appended};
+ghost use Rattle.exp_stack.specs.ListParts.{spec_gather_code, spec_moves_code, spec_scatter_code};
+
+use sil_micro::{Code, op};
+use std::alloc::AllocError;
+
+/// So many specifiers, whose addresses are in the first scratch words, are read into those from 200
+/// on.
+fn append_spec_gather(code: &mut Code, count: u32) -> Result<(), AllocError>
+    requires room { length code.old.ops + 500 < 2 ^ 32 }
+    ensures grown { OnOk result (code.new ≡ appended code.old (spec_gather_code count)) }
+    ensures count { OnOk result (length code.new.ops ≡ length code.old.ops + 25) }
+{
+    code.append(&[
+        op!(number 1, 0),
+        op!(number 2, 200),
+        op!(number 3, i64::from(count)),
+        op!(fixed 13, Descr),
+        op!(jump_if Eq 3, 4, Op(25)),
+        op!(load_word Scratch 6, 1),
+        op!(load A 7, 6),
+        op!(load F 8, 6),
+        op!(load V 9, 6),
+        op!(store_word Scratch 2, 7),
+        op!(Add 2, 2, 5),
+        op!(store_word Scratch 2, 8),
+        op!(Add 2, 2, 5),
+        op!(store_word Scratch 2, 9),
+        op!(Add 2, 2, 5),
+        op!(Add 6, 6, 13),
+        op!(load A 7, 6),
+        op!(load V 9, 6),
+        op!(store_word Scratch 2, 7),
+        op!(Add 2, 2, 5),
+        op!(store_word Scratch 2, 9),
+        op!(Add 2, 2, 5),
+        op!(Add 1, 1, 5),
+        op!(Sub 3, 3, 5),
+        op!(jump Op(4)),
+    ])?;
+    Ok(())
+}
+
+/// What was read is written to the specifiers whose addresses are in the words from 100 on.
+fn append_spec_scatter(code: &mut Code, count: u32) -> Result<(), AllocError>
+    requires room { length code.old.ops + 500 < 2 ^ 32 }
+    ensures grown { OnOk result (code.new ≡ appended code.old (spec_scatter_code count)) }
+    ensures count { OnOk result (length code.new.ops ≡ length code.old.ops + 21) }
+{
+    code.append(&[
+        op!(number 1, 100),
+        op!(number 2, 200),
+        op!(number 3, i64::from(count)),
+        op!(jump_if Eq 3, 4, Op(21)),
+        op!(load_word Scratch 6, 1),
+        op!(load_word Scratch 7, 2),
+        op!(Add 2, 2, 5),
+        op!(load_word Scratch 8, 2),
+        op!(Add 2, 2, 5),
+        op!(load_word Scratch 9, 2),
+        op!(Add 2, 2, 5),
+        op!(store_cell 6, 7, 8, 9),
+        op!(Add 6, 6, 13),
+        op!(load_word Scratch 7, 2),
+        op!(Add 2, 2, 5),
+        op!(load_word Scratch 9, 2),
+        op!(Add 2, 2, 5),
+        op!(store_cell 6, 7, 4, 9),
+        op!(Add 1, 1, 5),
+        op!(Sub 3, 3, 5),
+        op!(jump Op(3)),
+    ])?;
+    Ok(())
+}
+
+/// So many specifiers are read, all are written, and the top of the stack is set.
+pub(crate) fn append_spec_moves(code: &mut Code, count: u32) -> Result<(), AllocError>
+    requires room { length code.old.ops + 600 < 2 ^ 32 }
+    ensures grown { OnOk result (code.new ≡ appended code.old (spec_moves_code count)) }
+{
+    append_spec_gather(code, count)?;
+    append_spec_scatter(code, count)?;
+    code.append(&[op!(store_word State 4, 12)])?;
+    Ok(())
+}
