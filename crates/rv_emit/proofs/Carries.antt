@@ -26,7 +26,7 @@ use Rattle.rv_emit.proofs.Lengths.{start_long}
 use Rattle.rv_emit.proofs.RoutineWords.{start_words, past_words}
 use Rattle.rv_emit.proofs.WholeParts.{start_here, past_here}
 use Rattle.rv_emit.proofs.OpParts.{ops_long}
-use Rattle.rv_emit.proofs.Emitted.{IsEmitted, count, statement_there, place_by_entry}
+use Rattle.rv_emit.proofs.Images.{IsEmitted, count, statement_there, place_by_entry}
 use Rattle.rv_emit.proofs.Free.{free_before, free_at, free_past, last_apart, statement_place}
 use Rattle.rv_emit.proofs.Standing.{part_stands, apart}
 use Rattle.rv_emit.proofs.Targets.{statement_near}

@@ -37,7 +37,7 @@ use Rattle.rv_emit.proofs.Parted.{IsPart}
 use Rattle.rv_emit.proofs.Placed.{place_next, place_more, place_even, place_near, last_near}
 use Rattle.rv_emit.proofs.WholeParts.{ops_here}
 use Rattle.rv_emit.proofs.OpParts.{code_at, op_part}
-use Rattle.rv_emit.proofs.Emitted.{IsEmitted, count, entry_within}
+use Rattle.rv_emit.proofs.Images.{IsEmitted, count, entry_within}
 use Rattle.rv_emit.proofs.Free.{free_within}
 use Rattle.rv_emit.proofs.Standing.{part_stands}
 use Rattle.rv_emit.proofs.Linked.{linked}

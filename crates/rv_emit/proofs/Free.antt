@@ -14,7 +14,7 @@ use Rattle.rv_straight.specs.Ways.{IsFree}
 use Rattle.rv_emit.specs.Code.{first_op, op_place, last_place}
 use Rattle.rv_emit.proofs.Entries.{no_entry, entry_is}
 use Rattle.rv_emit.proofs.Placed.{place_first, place_more, place_rises}
-use Rattle.rv_emit.proofs.Emitted.{IsEmitted, IsStatement, statement_at}
+use Rattle.rv_emit.proofs.Images.{IsEmitted, IsStatement, statement_at}
 
 module _ {image : Image} {settings : Settings} {c : MicroCode} (em : IsEmitted image settings c) where
   abbrev at : ℕ → ℕ

@@ -31,7 +31,7 @@ use Rattle.rv_emit.proofs.Targets.{IsNear, entry_near, return_near}
 use Rattle.rv_emit.proofs.Parted.{IsPart}
 use Rattle.rv_emit.proofs.WholeParts.{code, check_here, fit_f_here, fit_v_here, open_here, char_here, word_here, below_scratch_here, below_cells_here, below_state_here, state_here, make_here, kind_here, entry_here, entry_table_here, return_here, return_table_here}
 use Rattle.rv_emit.proofs.OpParts.{leap_part}
-use Rattle.rv_emit.proofs.Emitted.{IsEmitted}
+use Rattle.rv_emit.proofs.Images.{IsEmitted}
 use Rattle.rv_emit.proofs.Standing.{apart}
 
 f_bits : (s : Sizes) → IsLegal s → bits_of s F < 64

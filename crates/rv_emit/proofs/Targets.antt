@@ -19,7 +19,7 @@ use Rattle.rv_operations.specs.Places.{target_place}
 use Rattle.rv_emit.specs.Code.{op_place, place_from, places_of}
 use Rattle.rv_emit.specs.Emits.{HasNumber}
 use Rattle.rv_emit.proofs.Placed.{place_even, place_near}
-use Rattle.rv_emit.proofs.Emitted.{IsEmitted, entry_within}
+use Rattle.rv_emit.proofs.Images.{IsEmitted, entry_within}
 
 -- what all operations keep, each does
 pub op_keeps : (test : Op → Bool) (ops : List Op) (q : ℕ) (op : Op) → IsTrue (all_ops test ops) → slice_get ops q ≡ Some op → IsTrue (test op)
