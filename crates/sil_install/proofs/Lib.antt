@@ -1,5 +1,13 @@
 mod Counts
 mod Alike
 mod Entries
+mod FirstMemory
+mod Stack
+mod Slots
+mod Keeping
+mod Carrying
+mod Standing
+mod First
+mod Join
 mod TableBytes
 mod Whole
