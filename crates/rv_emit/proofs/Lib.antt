@@ -23,13 +23,3 @@ pub mod OpPlaces
 pub mod Steps
 pub mod CodeWords
 pub mod Rising
-pub mod Images
-pub mod Free
-pub mod Standing
-pub mod Targets
-pub mod Routines
-pub mod Linked
-pub mod Start
-pub mod Past
-pub mod Carrying
-pub mod Carries
