@@ -1,0 +1,15 @@
+pub mod Parted
+pub mod Sums
+pub mod Words
+pub mod Lengths
+pub mod RoutineWords
+pub mod Weights
+pub mod Placed
+pub mod Entries
+pub mod WholeParts
+pub mod OpParts
+pub mod Ops
+pub mod OpPlaces
+pub mod Steps
+pub mod CodeWords
+pub mod Rising

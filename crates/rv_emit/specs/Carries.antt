@@ -1,5 +1,5 @@
 -- What the words of a code do on the emulator, operation by operation.
-use Rattle.std.specs.Prelude.{◌≡◌, ◌≢◌, ℕ, zero, suc, ◌+◌, ◌<◌, ◌≤◌, List, length, map, replicate, Option, Some, None, ◌⊎◌, Bool, true, false, not, slice_get, slice_index_or, IsTrue}
+use Rattle.std.specs.Prelude.{◌≡◌, ◌≢◌, ℕ, zero, suc, ◌+◌, ◌^◌, ◌<◌, ◌≤◌, List, length, map, replicate, Option, Some, None, ◌⊎◌, Bool, true, false, not, slice_get, slice_index_or, IsTrue}
 use Rattle.std.specs.Option.{option_map}
 use Rattle.sil_base.specs.Bytes.{low_bytes, with_piece}
 use Rattle.sil_base.specs.declared.limits.TheConstants.{MAX_STEPS, STATEMENT_INSTRUCTIONS, SCRATCH_BYTES}
@@ -18,6 +18,7 @@ use Rattle.rv_emulate.specs.Runs.{entry_at}
 use Rattle.rv_straight.specs.Registers.{IsFile}
 use Rattle.rv_straight.specs.Ways.{IsFree, Comes}
 use Rattle.rv_operations.specs.Does.{Does}
+use Rattle.rv_operations.specs.Ops.{IsKnown}
 use Rattle.rv_operations.specs.Places.{Places}
 use Rattle.rv_operations.specs.StandsFor.{StandsFor}
 use Rattle.rv_emit.specs.Code.{places_of, place_from, stack_top, last_place}
@@ -44,10 +45,6 @@ pub record Starts (image : Image) (last to top : ℕ) (tapes : Tapes) (n : ℕ) 
   pub memory : state.memory ≡ record (first_memory image) { scratch = with_stack top (replicate SCRATCH_BYTES 0) }
   pub same_tapes : state.tapes ≡ tapes
 
--- the number of the current statement is known, but to a Begin
-abbrev pub IsKnown : MicroCode → Op → Micro → Type 0
-IsKnown c op u = IsTrue (is_no_begin op) → u.state.statement ≤ length c.entries
-
 -- the places of statements are those of their first operations; from each state that stands for a micro state at an operation the run does what the operation does, within its weight; it begins at statement 0, and past the last operation it ends as undefined
 pub record CarriesOps (image : Image) (settings : Settings) (c : MicroCode) : Type 0 where
   pub count : length image.statements ≡ length c.entries
@@ -57,6 +54,6 @@ pub record CarriesOps (image : Image) (settings : Settings) (c : MicroCode) : Ty
   pub between : (q : ℕ) (op : Op) → slice_get c.ops q ≡ Some op → IsTrue (is_no_begin op) → IsFree image (last_place settings c) ((places_of settings c).op q)
   pub last_apart : entry_at image.statements (last_place settings c) ≡ None
   pub first_apart : IsFree image (last_place settings c) FIRST_WORD
-  pub does : (n q : ℕ) (op : Op) (u : Micro) (s : State) → n ≤ MAX_STEPS → slice_get c.ops q ≡ Some op → StandsFor (setting_of c settings n) u s → s.pc ≡ (places_of settings c).op q → IsKnown c op u → Does image (last_place settings c) (setting_of c settings n) (places_of settings c) (not (is_quiet op)) (weight op) ((places_of settings c).op (suc q)) s (act (setting_of c settings n) op u)
+  pub does : (n q : ℕ) (op : Op) (u : Micro) (s : State) → n ≤ MAX_STEPS → slice_get c.ops q ≡ Some op → StandsFor (setting_of c settings n) u s → s.pc ≡ (places_of settings c).op q → IsKnown (setting_of c settings n) op u → Does image (last_place settings c) (setting_of c settings n) (places_of settings c) (not (is_quiet op)) (weight op) ((places_of settings c).op (suc q)) s (act (setting_of c settings n) op u)
   pub begins : (tapes : Tapes) (n : ℕ) → n ≤ MAX_STEPS → HasRegions image → Starts image (last_place settings c) (place_from settings c (place_of c 0)) (stack_top settings c) tapes n
   pub past : (s : State) → IsFile s.registers → s.pc ≡ last_place settings c → Comes image (last_place settings c) false STATEMENT_INSTRUCTIONS s (Ended (Some (Undefined (length c.entries))) s.tapes)

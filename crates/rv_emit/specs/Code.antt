@@ -12,7 +12,6 @@ use Rattle.layout_params.specs.declared.cell.Field.TheVariants.{F, V}
 use Rattle.layout_params.specs.Parameters.{Settings}
 use Rattle.layout_params.specs.Sizes.{Sizes}
 use Rattle.sil_micro.specs.declared.op.Op.{Op}
-use Rattle.sil_micro.specs.declared.op.Op.TheVariants.{Const}
 use Rattle.sil_micro.specs.Codes.{MicroCode, place_of, return_of}
 use Rattle.sil_micro.specs.Operations.{scratch_words}
 use Rattle.rv_straight.specs.Constants.{upper_of, lower_of}
@@ -21,9 +20,10 @@ use Rattle.rv_routines.specs.Fields.{bits_of}
 use Rattle.rv_routines.specs.Codes.{check_routine, fit_routine, open_routine, char_routine, word_routine, below_routine, make_routine, kind_routine, state_routine}
 use Rattle.rv_operations.specs.declared.places.Routines.{Routines}
 use Rattle.rv_operations.specs.declared.places.Site.{Site}
-use Rattle.rv_operations.specs.Codes.{instructions, op_length}
-use Rattle.rv_operations.specs.Links.{fixed_bits, links_of}
+use Rattle.rv_operations.specs.Codes.{instructions}
+use Rattle.rv_operations.specs.Links.{links_of}
 use Rattle.rv_operations.specs.Places.{Places}
+pub use Rattle.rv_operations.specs.Ops.{number_of, length_of}
 use Rattle.rv_operations.specs.Switch.{switch_code, led}
 
 -- an integer that is not negative
@@ -61,15 +61,15 @@ routines_at d statements = record {
   below_cells = first_routine + 456;
   below_state = first_routine + 484;
   state = first_routine + 512;
-  make = first_routine + 572;
-  kind = first_routine + 652 + 4 * (d / 8);
-  entry = first_routine + 716 + 8 * (d / 8);
-  return_part = first_routine + 780 + 8 * (d / 8) + 8 * statements;
+  make = first_routine + 568;
+  kind = first_routine + 648 + 4 * (d / 8);
+  entry = first_routine + 712 + 8 * (d / 8);
+  return_part = first_routine + 776 + 8 * (d / 8) + 8 * statements;
 }
 
 -- the place of the first operation
 abbrev pub first_op : ℕ → ℕ → ℕ
-first_op d statements = first_routine + 844 + 8 * (d / 8) + 16 * statements
+first_op d statements = first_routine + 840 + 8 * (d / 8) + 16 * statements
 
 -- the instructions of the routines over so many cells
 abbrev pub routines_code : Sizes → ℕ → List Instr
@@ -99,14 +99,6 @@ abbrev pub switch_part : ℕ → ℕ → ℕ → (ℕ → Option ℕ) → List I
 switch_part d statements routine places = switch_code d statements routine (routine + 64) ++ table_code routine places (routine + 64) 0 statements
 
 -- ---- the operations
-
--- the bits of an operation's number, 0 where it has none
-abbrev pub number_of : Settings → ℕ → Op → ℕ
-number_of settings statics (Const to value) = fixed_bits settings statics value
-number_of settings statics _ = 0
-
-abbrev pub length_of : Settings → ℕ → Op → ℕ
-length_of settings statics op = op_length (number_of settings statics op) op
 
 -- where the operation of a number stands; past the last one, the place after all of them
 unfoldable pub op_place : Settings → MicroCode → ℕ → ℕ

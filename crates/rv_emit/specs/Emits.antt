@@ -1,10 +1,14 @@
 -- What emission takes, and what it gives.
-use Rattle.std.specs.Prelude.{◌≡◌, ℕ, zero, suc, ◌+◌, ◌*◌, ◌^◌, ◌<◌, ◌≤◌, List, [], ◌∷◌, length, map, All, sum_by, IsTrue}
+use Rattle.std.specs.Prelude.{◌≡◌, ℕ, zero, suc, ◌+◌, ◌*◌, ◌^◌, ◌<◌, ◌≤◌, List, [], ◌∷◌, length, map, All, sum_by, FitsSigned, IsTrue}
 use Rattle.std.specs.List.{flat_map}
+use Rattle.std.specs.Int.{w64}
 use Rattle.sil_base.specs.declared.places.TheConstants.{FIRST_WORD}
 use Rattle.layout_params.specs.Areas.{all_cells}
 use Rattle.layout_params.specs.Parameters.{Settings, AreLegalSettings}
 use Rattle.rv_isa.specs.Words.{word_of}
+use Rattle.sil_micro.specs.declared.op.Fixed.TheVariants.{Number}
+use Rattle.sil_micro.specs.declared.op.Op.{Op}
+use Rattle.sil_micro.specs.declared.op.Op.TheVariants.{Const}
 use Rattle.sil_micro.specs.Codes.{MicroCode, IsCode, IsWhole}
 use Rattle.image_file.specs.Image.{Image, StatementEntry, places_rise}
 use Rattle.rv_emit.specs.Code.{whole_code, op_place, place_from}
@@ -18,6 +22,11 @@ pub record CanEmit (c : MicroCode) (settings : Settings) : Type 0 where
   pub cells : all_cells settings c.static_cells ≤ 2 ^ 20
   pub format_lengths : All (λ text. length text ≤ 256) c.formats
   pub format_bytes : sum_by length c.formats ≤ 2097152
+
+-- a number fits 64 bits with its sign, as all registers of micro code do
+abbrev pub HasNumber : Op → Type 0
+HasNumber (Const to (Number n)) = FitsSigned w64 n
+HasNumber op = Unit {0}
 
 -- the words of all instructions
 abbrev pub words_of : Settings → MicroCode → List ℕ
@@ -41,7 +50,7 @@ Carries settings c words places = (image : Image) → image.settings ≡ setting
 
 -- the law that carries it
 abbrev pub LawOfEmission : Type 0
-LawOfEmission = (settings : Settings) (c : MicroCode) → CanEmit c settings → Carries settings c (words_of settings c) (statement_places settings c)
+LawOfEmission = (settings : Settings) (c : MicroCode) → CanEmit c settings → All HasNumber c.ops → Carries settings c (words_of settings c) (statement_places settings c)
 
 -- words and places that an image takes: at least one word and at most 201,310,208, and places that rise strictly within them
 pub record FitsImage (words places : List ℕ) : Type 0 where

@@ -4,3 +4,4 @@ pub mod Ways
 pub mod Code
 pub mod Carries
 pub mod Emits
+pub mod Planned

@@ -23,7 +23,7 @@ use Rattle.rv_operations.proofs.Standing.{home_small, home_positive, with_regist
 use Rattle.rv_operations.proofs.Setting.{lands}
 
 -- a number that is fixed has the bits that are emitted
-fixed_is : (g : Setting) (u : Micro) (s : State) (value : Fixed) → StandsFor g u s → cast_unsigned w64 (fixed g u.state value) ≡ fixed_bits g.settings g.static_cells value
+pub fixed_is : (g : Setting) (u : Micro) (s : State) (value : Fixed) → StandsFor g u s → cast_unsigned w64 (fixed g u.state value) ≡ fixed_bits g.settings g.static_cells value
 fixed_is g u s (Number n) st = refl
 fixed_is g u s Descr st = st.memory.limit
 fixed_is g u s Obsiz st = refl

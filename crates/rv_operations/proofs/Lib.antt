@@ -19,3 +19,5 @@ pub mod OpRules
 pub mod OpWords
 pub mod Switching
 pub mod EntryOps
+pub mod FixedFits
+pub mod AllOps

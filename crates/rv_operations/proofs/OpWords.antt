@@ -23,7 +23,7 @@ use Rattle.rv_routines.proofs.FieldPlaces.{span, place_below}
 use Rattle.rv_operations.specs.declared.places.Site.{Site}
 use Rattle.rv_operations.specs.declared.places.Links.{Links}
 use Rattle.rv_operations.specs.Homes.{home}
-use Rattle.rv_operations.specs.Codes.{moved_to, text_code, values_code, call_unit_code, unit_call_code}
+use Rattle.rv_operations.specs.Codes.{instructions, moved_to, text_code, values_code, call_unit_code, unit_call_code}
 use Rattle.rv_operations.specs.Sites.{IsText}
 use Rattle.rv_operations.specs.Laws.{LawOfOpWords}
 use Rattle.rv_operations.proofs.Standing.{home_small}
@@ -79,6 +79,7 @@ call_words site call unit to t v near short u_ok to_ok t_ok v_ok few =
     (first.0, both (text_code site.links t ++ values_code v) (call_unit_code call to) (both (text_code site.links t) (values_code v) (text_words site.links t near short t_ok) (value_words v v_ok)) last)
 
 pub words : LawOfOpWords
+unfolding instructions
 words sizes site (Const to value) layout fits h r = constants (home to) site.links.number (home_fits to r) fits
 words sizes site (Copy to from) layout fits h r =
     let a = home_fits to r.0 in

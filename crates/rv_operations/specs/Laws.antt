@@ -21,7 +21,7 @@ use Rattle.rv_straight.specs.Code.{AreInstrs}
 use Rattle.rv_operations.specs.Sites.{CanStand, HasRules}
 use Rattle.rv_operations.specs.Places.{Places, target_place}
 use Rattle.rv_operations.specs.Links.{fixed_bits}
-use Rattle.rv_operations.specs.Codes.{copy_code, arith_code, branch_op, load_field_code, store_field_code, store_cell_code, begin_code, end_code, op_code, op_length}
+use Rattle.rv_operations.specs.Codes.{copy_code, arith_code, branch_op, load_field_code, store_field_code, store_cell_code, begin_code, end_code, instructions, op_length}
 use Rattle.rv_operations.specs.Routines.{HasRoutines}
 use Rattle.rv_operations.specs.Does.{Does, Begins, BeginsAnew}
 
@@ -61,20 +61,20 @@ LawOfJumpIf =
 abbrev pub LawOfLoadField : Type 0
 LawOfLoadField =
     (image : Image) (last : ℕ) (g : Setting) (places : Places) (f : Field) (to at : ℕ) (u : Micro) (s : State)
-    → to < 16 → at < 16 → HasRoutines image last g places.routines → Begins image last g (load_field_code g.settings.sizes places.routines s.pc f to at) u s
+    → to < 16 → at < 16 → HasRoutines image last g places → Begins image last g (load_field_code g.settings.sizes places.routines s.pc f to at) u s
     → Does image last g places false 19 (s.pc + 16) s (act g (LoadField f to at) u)
 
 abbrev pub LawOfStoreField : Type 0
 LawOfStoreField =
     (image : Image) (last : ℕ) (g : Setting) (places : Places) (f : Field) (at from : ℕ) (u : Micro) (s : State)
-    → at < 16 → from < 16 → HasRoutines image last g places.routines → Begins image last g (store_field_code g.settings.sizes places.routines s.pc f at from) u s
+    → at < 16 → from < 16 → HasRoutines image last g places → Begins image last g (store_field_code g.settings.sizes places.routines s.pc f at from) u s
     → Does image last g places false 22 (s.pc + 4 * length (store_field_code g.settings.sizes places.routines s.pc f at from)) s (act g (StoreField f at from) u)
 
 -- a cell is written whole in 25
 abbrev pub LawOfStoreCell : Type 0
 LawOfStoreCell =
     (image : Image) (last : ℕ) (g : Setting) (places : Places) (at a f v : ℕ) (u : Micro) (s : State)
-    → at < 16 → a < 16 → f < 16 → v < 16 → HasRoutines image last g places.routines → Begins image last g (store_cell_code g.settings.sizes places.routines s.pc at a f v) u s
+    → at < 16 → a < 16 → f < 16 → v < 16 → HasRoutines image last g places → Begins image last g (store_cell_code g.settings.sizes places.routines s.pc at a f v) u s
     → Does image last g places false 25 (s.pc + 32) s (act g (StoreCell at a f v) u)
 
 -- a statement begins within 6 instructions, and the run ends within 3
@@ -92,8 +92,8 @@ LawOfEnd =
 
 -- an operation has as many instructions as its length says, wherever it stands
 abbrev pub LawOfLengths : Type 0
-LawOfLengths = (sizes : Sizes) (site : Site) (op : Op) → length (op_code sizes site op) ≡ op_length site.links.number op
+LawOfLengths = (sizes : Sizes) (site : Site) (op : Op) → length (instructions sizes site op) ≡ op_length site.links.number op
 
 -- each of them has a word
 abbrev pub LawOfOpWords : Type 0
-LawOfOpWords = (sizes : Sizes) (site : Site) (op : Op) → IsTrue (is_legal sizes) → site.links.number < 2 ^ 64 → CanStand site op → HasRules op → AreInstrs (op_code sizes site op)
+LawOfOpWords = (sizes : Sizes) (site : Site) (op : Op) → IsTrue (is_legal sizes) → site.links.number < 2 ^ 64 → CanStand site op → HasRules op → AreInstrs (instructions sizes site op)

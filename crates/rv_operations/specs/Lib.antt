@@ -10,3 +10,4 @@ pub mod Does
 pub mod Laws
 pub mod WordLaws
 pub mod Switch
+pub mod Ops

@@ -1,6 +1,7 @@
 // The laws of operations.
 ghost use Rattle.rv_operations.specs.WordLaws.{LawOfLoadBytes, LawOfLoadChar, LawOfLoadKind, LawOfLoadScratch, LawOfLoadState, LawOfStoreBytes, LawOfStoreChar, LawOfStoreKind, LawOfStoreScratch, LawOfStoreState};
 ghost use Rattle.rv_operations.specs.Switch.{LawOfJumpEntry, LawOfJumpReturn, LawOfSwitches};
+ghost use Rattle.rv_operations.specs.Ops.{LawOfOpLengths, LawOfOps};
 ghost use Rattle.rv_operations.specs.Laws.{LawOfArith, LawOfBegin, LawOfConst, LawOfCopy, LawOfEnd, LawOfJump, LawOfJumpIf, LawOfLengths, LawOfLoadField, LawOfOpWords, LawOfStoreCell, LawOfStoreField};
 
 /// The words of constants, copies and sums do what the operations do.
@@ -75,4 +76,11 @@ pub fn law_of_entries()
     ensures switch { LawOfSwitches }
     ensures jump { LawOfJumpEntry }
     ensures back { LawOfJumpReturn }
+{}
+
+/// The instructions of every operation do what it does, within its weight, and are as many as its
+/// length says.
+pub fn law_of_ops()
+    ensures does { LawOfOps }
+    ensures length { LawOfOpLengths }
 {}

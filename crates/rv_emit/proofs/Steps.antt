@@ -1,0 +1,91 @@
+-- Operations, and jumps of tables, appended one by one.
+use Rattle.std.proofs.Common.{◌≡◌, ℕ, zero, suc, ◌+◌, ◌-◌, ◌*◌, ◌<◌, ◌≤◌, List, [], ◌∷◌, ◌++◌, length, drop, get_or, map, take, Option, Some, None, refl, sym, ap, ◌∙◌, arith, append_assoc}
+use Rattle.std.proofs.lemmas.List.{append-nil, drop_all, drop_more, map_more}
+use Rattle.std.proofs.lemmas.Option.{slice_get-get_or}
+use Rattle.std.specs.Prelude.{slice_get}
+use Rattle.rv_isa.specs.declared.instr.Instr.{Instr}
+use Rattle.layout_params.specs.Parameters.{Settings}
+use Rattle.sil_micro.specs.declared.op.Op.{Op}
+use Rattle.sil_micro.specs.Codes.{MicroCode, place_of, told}
+use Rattle.rv_straight.specs.Jumps.{leap, leap_code}
+use Rattle.rv_operations.specs.Codes.{instructions}
+use Rattle.rv_operations.specs.Switch.{led}
+use Rattle.rv_emit.specs.Code.{first_op, length_of, op_place, ops_code, place_from, site_of, table_code}
+use Rattle.rv_emit.specs.Planned.{leads, operations_of, routine_of, table_of}
+use Rattle.rv_emit.specs.declared.plan.Switch.{Switch}
+use Rattle.rv_emit.proofs.Placed.{place_next}
+use Rattle.rv_emit.proofs.OpPlaces.{first_place}
+use Rattle.rv_emit.proofs.Emitted.{place_by_entry}
+
+module _ (settings : Settings) (c : MicroCode) where
+  -- the instructions from an operation on
+  abbrev pub ops_from : ℕ → List Instr
+  ops_from q = ops_code settings c (op_place settings c q) (drop q c.ops)
+
+  pub ops_first : (code : List Instr) → code ++ ops_from 0 ≡ code ++ operations_of settings c
+  unfolding operations_of
+  ops_first code = ap (λ p. code ++ ops_code settings c p c.ops) (first_place settings c)
+
+  pub ops_end : (code : List Instr) (q : ℕ) → length c.ops ≤ q → code ++ ops_from q ≡ code
+  ops_end code q h = ap (λ ops. code ++ ops_code settings c (op_place settings c q) ops) (drop_all q c.ops h) ∙ append-nil code
+
+  next_from : (q : ℕ) (op : Op) → q < length c.ops → op ≡ get_or c.ops q op → ops_from q ≡ instructions settings.sizes (site_of settings c (op_place settings c q) op) op ++ ops_from (q + 1)
+  next_from q op lt is =
+      let s : suc q ≡ q + 1 = omega arith in
+      let at : slice_get c.ops q ≡ Some op = slice_get-get_or c.ops q op lt ∙ ap Some (sym is) in
+      ap (λ ops. ops_code settings c (op_place settings c q) ops) (drop_more c.ops q op lt ∙ ap (λ o. o ∷ drop (q + 1) c.ops) (sym is))
+      ∙ ap (λ p. instructions settings.sizes (site_of settings c (op_place settings c q) op) op ++ ops_code settings c p (drop (q + 1) c.ops)) (sym (place_next settings c q op at) ∙ ap (op_place settings c) s)
+
+  -- one operation more
+  pub ops_more : (old code whole : List Instr) (q : ℕ) (op : Op) → q < length c.ops → op ≡ get_or c.ops q op → code ≡ old ++ instructions settings.sizes (site_of settings c (op_place settings c q) op) op → old ++ ops_from q ≡ whole → code ++ ops_from (q + 1) ≡ whole
+  ops_more old code whole q op lt is new so_far =
+      ap (λ k. k ++ ops_from (q + 1)) new
+      ∙ append_assoc old (instructions settings.sizes (site_of settings c (op_place settings c q) op) op) (ops_from (q + 1))
+      ∙ ap (λ k. old ++ k) (sym (next_from q op lt is))
+      ∙ so_far
+
+  -- ---- tables
+
+  abbrev pub table_from : Switch → ℕ → ℕ → List Instr
+  table_from which routine k = table_code routine (leads settings c which) (routine + 64 + 8 * k) k (length c.entries - k)
+
+  pub table_first : (code : List Instr) (which : Switch) (routine : ℕ) → routine ≡ routine_of settings.sizes.descr (length c.entries) which → code ++ table_from which routine 0 ≡ code ++ table_of settings c which
+  unfolding table_of
+  table_first code which routine is =
+      let z : routine + 64 + 8 * 0 ≡ routine + 64 = omega arith in
+      let n : length c.entries - 0 ≡ length c.entries = omega arith in
+      ap (λ p. code ++ table_code routine (leads settings c which) p 0 (length c.entries - 0)) z
+      ∙ ap (λ m. code ++ table_code routine (leads settings c which) (routine + 64) 0 m) n
+      ∙ ap (λ r. code ++ table_code r (leads settings c which) (r + 64) 0 (length c.entries)) is
+
+  pub table_end : (code : List Instr) (which : Switch) (routine k : ℕ) → length c.entries ≤ k → code ++ table_from which routine k ≡ code
+  table_end code which routine k h =
+      let n : length c.entries - k ≡ 0 = omega arith in
+      ap (λ m. code ++ table_code routine (leads settings c which) (routine + 64 + 8 * k) k m) n ∙ append-nil code
+
+  jump_from : (which : Switch) (routine k : ℕ) → k < length c.entries → table_from which routine k ≡ leap_code 28 0 (routine + 64 + 8 * k) (led routine (leads settings c which k)) ++ table_from which routine (k + 1)
+  jump_from which routine k lt =
+      let n : length c.entries - k ≡ suc (length c.entries - (k + 1)) = omega arith in
+      let p : routine + 64 + 8 * k + 8 ≡ routine + 64 + 8 * (k + 1) = omega arith in
+      let s : suc k ≡ k + 1 = omega arith in
+      ap (λ m. table_code routine (leads settings c which) (routine + 64 + 8 * k) k m) n
+      ∙ ap (λ a. leap_code 28 0 (routine + 64 + 8 * k) (led routine (leads settings c which k)) ++ table_code routine (leads settings c which) a (suc k) (length c.entries - (k + 1))) p
+      ∙ ap (λ j. leap_code 28 0 (routine + 64 + 8 * k) (led routine (leads settings c which k)) ++ table_code routine (leads settings c which) (routine + 64 + 8 * (k + 1)) j (length c.entries - (k + 1))) s
+
+  -- one jump more
+  pub table_more : (old code whole : List Instr) (which : Switch) (routine k to : ℕ) → k < length c.entries → to ≡ led routine (leads settings c which k) → code ≡ old ++ leap 28 0 (routine + 64 + 8 * k) to → old ++ table_from which routine k ≡ whole → code ++ table_from which routine (k + 1) ≡ whole
+  unfolding leap
+  table_more old code whole which routine k to lt is new so_far =
+      ap (λ x. x ++ table_from which routine (k + 1)) (new ∙ ap (λ t. old ++ leap_code 28 0 (routine + 64 + 8 * k) t) is)
+      ∙ append_assoc old (leap_code 28 0 (routine + 64 + 8 * k) (led routine (leads settings c which k))) (table_from which routine (k + 1))
+      ∙ ap (λ x. old ++ x) (sym (jump_from which routine k lt))
+      ∙ so_far
+
+  -- ---- the places of statements
+
+  pub statement_more : (places : List ℕ) (k place : ℕ) → k < length c.entries → place ≡ place_from settings c (place_of c k) → places ≡ map (place_from settings c) (take k c.entries) → places ++ place ∷ [] ≡ map (place_from settings c) (take (k + 1) c.entries)
+  statement_more places k place lt is so_far =
+      let at : place_of c k ≡ get_or c.entries k None = place_by_entry c k lt ∙ ap told (slice_get-get_or c.entries k None lt) in
+      ap (λ p. places ++ p ∷ []) (is ∙ ap (place_from settings c) at)
+      ∙ ap (λ ps. ps ++ place_from settings c (get_or c.entries k None) ∷ []) so_far
+      ∙ sym (map_more (place_from settings c) c.entries k None lt)
