@@ -140,7 +140,7 @@ module _ (settings : Settings) (c : MicroCode) where
   abbrev front_2 : List Instr
   front_2 = front_1 ++ (switch_1 ++ table_1)
 
-  abbrev front_3 : List Instr
+  abbrev pub front_3 : List Instr
   front_3 = front_2 ++ (switch_2 ++ table_2)
 
   abbrev ops : List Instr
@@ -152,7 +152,7 @@ module _ (settings : Settings) (c : MicroCode) where
   front_long_2 : length front_2 ≡ 201 + 2 * e + 2 * count
   front_long_2 = omega (arith, length-append front_1 (switch_1 ++ table_1), front_long_1, length-append switch_1 table_1, switch_long d count r.entry, table_long r.entry by_entry (r.entry + 64) 0 count)
 
-  front_long_3 : length front_3 ≡ 217 + 2 * e + 4 * count
+  pub front_long_3 : length front_3 ≡ 217 + 2 * e + 4 * count
   front_long_3 = omega (arith, length-append front_2 (switch_2 ++ table_2), front_long_2, length-append switch_2 table_2, switch_long d count r.return_part, table_long r.return_part by_return (r.return_part + 64) 0 count)
 
   abbrev pub code : List Instr
