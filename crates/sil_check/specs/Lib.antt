@@ -1,6 +1,4 @@
 pub mod Statements
-pub mod Standard
-pub mod StaticPlaces
 pub mod TableFaults
 pub mod Specials
 pub mod Programs

@@ -1,11 +1,9 @@
 // From the cards of a source to its program.
 #![tactic(auto)]
 
-mod places;
 mod program;
 mod source;
 mod specials;
-mod standard;
 mod statements;
 mod tables;
 

@@ -2,7 +2,8 @@
 ghost use Rattle.std.specs.Prelude.{◌≡◌, ◌≤◌, Ok, Err, false, length, IfOk, IfErr, MatchResult, IsOkAnd};
 ghost use Rattle.sil_cards.specs.Cards.{AreCards};
 ghost use Rattle.sil_install.specs.Installed.{IsInstalled};
-ghost use Rattle.rv_emit.specs.Emits.{CanEmit};
+ghost use Rattle.sil_model.specs.Built.{AreBuilt};
+ghost use Rattle.sil_model.specs.WellFormed.{IsWellFormed};
 ghost use Rattle.sil_cli.specs.Endings.{is_free};
 ghost use Rattle.sil_cli.specs.CommandFiles.{IsCheckStop};
 ghost use Rattle.sil_cli.specs.HeldInputs.{inputs_by, job_by, AreRead, source_held};
@@ -65,7 +66,8 @@ fn program_of(
         (λ p. job_of params.now tables.now cards.items
         ≡ Ok (record { program = p; parameters = params.now }))
         (λ e. is_free e ≡ false → job_of params.now tables.now cards.items ≡ Err e) }
-    ensures can_emit { IfOk result (λ p. CanEmit p params.now.settings) }
+    ensures well_formed { IfOk result (λ p. IsWellFormed p params.now.settings) }
+    ensures built { IfOk result AreBuilt }
     ensures cause { IfErr result IsCheckStop }
 {
     Ok(check(alloc, cards, tables, params)?)
@@ -80,7 +82,8 @@ pub fn make_job(alloc: Global, inputs: Inputs) -> Result<Job, Stop>
     ensures told { MatchResult result
         (λ j. job_in (inputs_by inputs) ≡ Ok (job_by j))
         (λ e. is_free e ≡ false → job_in (inputs_by inputs) ≡ Err e) }
-    ensures can_emit { IfOk result (λ j. CanEmit j.program j.params.settings) }
+    ensures well_formed { IfOk result (λ j. IsWellFormed j.program j.params.settings) }
+    ensures built { IfOk result (λ j. AreBuilt j.program) }
     ensures cause { IfErr result IsCheckStop }
 {
     let Inputs {
