@@ -8,6 +8,16 @@ pub mod Placed
 pub mod Entries
 pub mod WholeParts
 pub mod OpParts
+pub mod Images
+pub mod Free
+pub mod Standing
+pub mod Targets
+pub mod Routines
+pub mod Linked
+pub mod Start
+pub mod Past
+pub mod Carrying
+pub mod Carries
 pub mod Ops
 pub mod OpPlaces
 pub mod Steps

@@ -1,5 +1,5 @@
 -- The parts of a code stand in an image of it.
-use Rattle.std.proofs.Common.{◌≡◌, ℕ, ◌+◌, ◌-◌, ◌*◌, ◌/◌, ◌%◌, ◌^◌, ◌<◌, ◌≤◌, List, length, arith}
+use Rattle.std.proofs.Common.{◌≡◌, ℕ, ◌+◌, ◌*◌, ◌<◌, ◌≤◌, List, length, arith}
 use Rattle.rv_isa.specs.declared.instr.Instr.{Instr}
 use Rattle.layout_params.specs.Parameters.{Settings}
 use Rattle.sil_base.specs.declared.places.TheConstants.{FIRST_WORD}
@@ -10,7 +10,7 @@ use Rattle.rv_emit.specs.Code.{first_op, last_place, whole_code}
 use Rattle.rv_emit.proofs.Parted.{IsPart}
 use Rattle.rv_emit.proofs.Words.{stands}
 use Rattle.rv_emit.proofs.Placed.{place_first, last_near}
-use Rattle.rv_emit.proofs.Emitted.{IsEmitted}
+use Rattle.rv_emit.proofs.Images.{IsEmitted}
 use Rattle.rv_emit.proofs.Free.{free_before}
 
 module _ {image : Image} {settings : Settings} {c : MicroCode} (em : IsEmitted image settings c) where

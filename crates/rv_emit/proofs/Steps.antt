@@ -15,7 +15,7 @@ use Rattle.rv_emit.specs.Planned.{leads, operations_of, routine_of, table_of}
 use Rattle.rv_emit.specs.declared.plan.Switch.{Switch}
 use Rattle.rv_emit.proofs.Placed.{place_next}
 use Rattle.rv_emit.proofs.OpPlaces.{first_place}
-use Rattle.rv_emit.proofs.Emitted.{place_by_entry}
+use Rattle.rv_emit.proofs.Images.{place_by_entry}
 
 module _ (settings : Settings) (c : MicroCode) where
   -- the instructions from an operation on

@@ -38,10 +38,13 @@ Effect = Option (Way × State)
 abbrev pub goes : Flow → State → Effect
 goes flow s = Some (On flow, s)
 
--- a clause that looks at its operands and the memory alone
+-- a clause that looks at its operands and the memory alone, and one that looks at its site and the memory
 abbrev pub with_memory : State → MemoryEffect → Effect
 with_memory s None = None
 with_memory s (Some (flow, m)) = goes flow (record s { memory = m })
 
 abbrev pub on_memory : (List Arg → Memory → MemoryEffect) → Site → State → Effect
 on_memory f site s = with_memory s (f site.args s.memory)
+
+abbrev pub on_site : (Site → Memory → MemoryEffect) → Site → State → Effect
+on_site f site s = with_memory s (f site s.memory)
