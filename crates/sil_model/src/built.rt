@@ -5,7 +5,34 @@ ghost use Rattle.sil_model.specs.Built.{is_built};
 use sil_macros::{Macro, number_of_macro};
 
 /// The macros that are installed so far.
-pub const BUILT: [Macro; 3] = [Macro::Endex, Macro::Incra, Macro::Movd];
+pub const BUILT: [Macro; 26] = [
+    Macro::Endex,
+    Macro::Adjust,
+    Macro::Decra,
+    Macro::Getac,
+    Macro::Getd,
+    Macro::Getdc,
+    Macro::Getsiz,
+    Macro::Incra,
+    Macro::Incrv,
+    Macro::Mova,
+    Macro::Movd,
+    Macro::Movdic,
+    Macro::Movv,
+    Macro::Putac,
+    Macro::Putd,
+    Macro::Putdc,
+    Macro::Putvc,
+    Macro::Resetf,
+    Macro::Rsetfi,
+    Macro::Setac,
+    Macro::Setav,
+    Macro::Setf,
+    Macro::Setfi,
+    Macro::Setsiz,
+    Macro::Setva,
+    Macro::Setvc,
+];
 
 /// Whether a macro is one of those that are installed so far.
 #[tactic(auto, unfolding(crate::specs::Built::is_built))]
