@@ -5,20 +5,33 @@ ghost use Rattle.sil_model.specs.Built.{is_built};
 use sil_macros::{Macro, number_of_macro};
 
 /// The macros that are installed so far.
-pub const BUILT: [Macro; 26] = [
-    Macro::Endex,
+pub const BUILT: [Macro; 46] = [
+    Macro::Acomp,
+    Macro::Acompc,
     Macro::Adjust,
+    Macro::Aeql,
+    Macro::Aeqlc,
+    Macro::Aeqlic,
+    Macro::Chkval,
     Macro::Decra,
+    Macro::Deql,
+    Macro::Divide,
+    Macro::Endex,
     Macro::Getac,
     Macro::Getd,
     Macro::Getdc,
     Macro::Getsiz,
     Macro::Incra,
     Macro::Incrv,
+    Macro::Lcomp,
+    Macro::Leqlc,
+    Macro::Mnsint,
     Macro::Mova,
     Macro::Movd,
     Macro::Movdic,
     Macro::Movv,
+    Macro::Mult,
+    Macro::Multc,
     Macro::Putac,
     Macro::Putd,
     Macro::Putdc,
@@ -32,6 +45,13 @@ pub const BUILT: [Macro; 26] = [
     Macro::Setsiz,
     Macro::Setva,
     Macro::Setvc,
+    Macro::Subtrt,
+    Macro::Sum,
+    Macro::Testf,
+    Macro::Testfi,
+    Macro::Vcmpic,
+    Macro::Veql,
+    Macro::Veqlc,
 ];
 
 /// Whether a macro is one of those that are installed so far.
