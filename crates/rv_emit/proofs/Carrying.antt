@@ -1,15 +1,12 @@
 -- The run does what an operation of the code does, where the operation stands.
-use Rattle.std.proofs.Common.{◌≡◌, ℕ, suc, ◌+◌, ◌-◌, ◌*◌, ◌/◌, ◌%◌, ◌^◌, ◌<◌, ◌≤◌, List, [], ◌∷◌, ◌++◌, length, take, length-append, Some, refl, sym, ap, subst, ◌∙◌, arith}
+use Rattle.std.proofs.Common.{◌≡◌, ℕ, suc, ◌+◌, ◌*◌, ◌/◌, ◌^◌, ◌<◌, ◌≤◌, List, [], ◌∷◌, length, take, length-append, Some, refl, sym, ap, subst, ◌∙◌, arith}
 use Rattle.std.proofs.lemmas.Option.{slice_get_within}
 use Rattle.std.proofs.lemmas.List.Sums.{sum_by-cons}
-use Rattle.std.specs.Prelude.{IsTrue, not, slice_get, sum_by}
-use Rattle.std.specs.Int.{w64, cast_unsigned}
+use Rattle.std.specs.Prelude.{not, slice_get, sum_by}
 use Rattle.std.specs.List.{flat_map}
-use Rattle.sil_base.specs.declared.limits.TheConstants.{MAX_CONSTANT_BYTES, MAX_STEPS}
+use Rattle.sil_base.specs.declared.limits.TheConstants.{MAX_STEPS}
 use Rattle.sil_base.specs.declared.places.TheConstants.{FIRST_WORD}
-use Rattle.rv_isa.specs.declared.instr.Instr.{Instr}
 use Rattle.layout_params.specs.Parameters.{Settings}
-use Rattle.sil_micro.specs.declared.op.Fixed.{Fixed}
 use Rattle.sil_micro.specs.declared.op.Op.{Op}
 use Rattle.sil_micro.specs.declared.op.Op.TheVariants.{Const, Begin}
 use Rattle.sil_micro.specs.Codes.{MicroCode, setting_of}
@@ -30,7 +27,7 @@ use Rattle.rv_operations.proofs.AllOps.{ops}
 use Rattle.rv_operations.proofs.Doing.{unsigned_small}
 use Rattle.rv_operations.proofs.FixedFits.{fixed_fits}
 use Rattle.rv_operations.proofs.Fixing.{fixed_is}
-use Rattle.rv_operations.proofs.OpRules.{rules, lengths_in, links_number}
+use Rattle.rv_operations.proofs.OpRules.{rules, lengths_in}
 use Rattle.rv_operations.proofs.OpWords.{words}
 use Rattle.rv_emit.specs.Code.{first_op, op_place, last_place, places_of, whole_code}
 use Rattle.rv_emit.proofs.Parted.{IsPart}
@@ -98,12 +95,14 @@ module _ {image : Image} {settings : Settings} {c : MicroCode} (em : IsEmitted i
 
     can_stand : CanStand (site_of g p (op_place settings c q) op) op
     can_stand =
-        let near = place_near settings c em.can q (omega arith) in
+        let near = place_near settings c em.can q (omega (arith, within)) in
         let l = linked settings c.static_cells c.formats p em.can.format_lengths em.can.format_bytes op in
         record { place = omega arith; text = l.text; text_len = l.text_len; number = begun op e }
 
     instrs : AreInstrs (code_of g p (op_place settings c q) op)
-    instrs = words settings.sizes (site_of g p (op_place settings c q) op) op em.can.legal.layout (omega (arith, links_number g p op, number_small op names)) can_stand (rules op (op_keeps is_op c.ops q op em.can.code.rules e))
+    instrs =
+        let l = linked settings c.static_cells c.formats p em.can.format_lengths em.can.format_bytes op in
+        words settings.sizes (site_of g p (op_place settings c q) op) op em.can.legal.layout (omega (arith, l.number_is, number_small op names)) can_stand (rules op (op_keeps is_op c.ops q op em.can.code.rules e))
 
     here : StandAt image.words s.pc (code_of g p s.pc op)
     here = subst (λ at. StandAt image.words at (code_of g p at op)) (sym pc) (part_stands em (index settings c q) (op_place settings c q) (code_of g p (op_place settings c q) op) (op_here settings c q op e) instrs (place_is settings c q))

@@ -1,5 +1,5 @@
 -- Operations and jumps of tables within the code, each at its place.
-use Rattle.std.proofs.Common.{◌≡◌, ℕ, zero, suc, ◌+◌, ◌*◌, ◌<◌, List, [], ◌∷◌, ◌++◌, length, take, length-append, Option, Some, refl, sym, ap, subst, ◌∙◌, arith}
+use Rattle.std.proofs.Common.{◌≡◌, ℕ, zero, suc, ◌+◌, ◌*◌, ◌<◌, List, [], ◌∷◌, length, take, length-append, Option, Some, refl, ap, subst, arith}
 use Rattle.std.specs.Prelude.{slice_get, sum_by}
 use Rattle.std.proofs.lemmas.List.Sums.{sum_by-cons}
 use Rattle.rv_isa.specs.declared.instr.Instr.{Instr}
@@ -15,17 +15,17 @@ use Rattle.rv_emit.specs.Code.{table_code, site_of, places_of, ops_code}
 use Rattle.rv_emit.proofs.Parted.{IsPart, first_part, next_part}
 
 -- the jump of a statement in a table
-leap_is : {all : List Instr} {routine : ℕ} {places : ℕ → Option ℕ} (i j here there k m : ℕ) → i ≡ j → here ≡ there → k ≡ m → IsPart all i (leap_code 28 0 here (led routine (places k))) → IsPart all j (leap_code 28 0 there (led routine (places m)))
-leap_is {all} {routine} {places} i j here there k m e f g p =
+leap_is : (all : List Instr) (routine : ℕ) (places : ℕ → Option ℕ) (i j here there k m : ℕ) → i ≡ j → here ≡ there → k ≡ m → IsPart all i (leap_code 28 0 here (led routine (places k))) → IsPart all j (leap_code 28 0 there (led routine (places m)))
+leap_is all routine places i j here there k m e f g p =
     subst (λ a. IsPart all a (leap_code 28 0 there (led routine (places m)))) e (subst (λ a. IsPart all i (leap_code 28 0 a (led routine (places m)))) f (subst (λ a. IsPart all i (leap_code 28 0 here (led routine (places a)))) g p))
 
 pub leap_part : (all : List Instr) (routine : ℕ) (places : ℕ → Option ℕ) (i here first more k : ℕ) → k < more → IsPart all i (table_code routine places here first more) → IsPart all (i + 2 * k) (leap_code 28 0 (here + 8 * k) (led routine (places (first + k))))
 leap_part all routine places i here first zero k lt p = absurd (omega arith)
 leap_part all routine places i here first (suc more) zero lt p =
-    leap_is {all} {routine} {places} i (i + 2 * 0) here (here + 8 * 0) first (first + 0) (omega arith) (omega arith) (omega arith) (first_part (leap_code 28 0 here (led routine (places first))) (table_code routine places (here + 8) (suc first) more) p)
+    leap_is all routine places i (i + 2 * 0) here (here + 8 * 0) first (first + 0) (omega arith) (omega arith) (omega arith) (first_part (leap_code 28 0 here (led routine (places first))) (table_code routine places (here + 8) (suc first) more) p)
 leap_part all routine places i here first (suc more) (suc k) lt p =
     let rest = next_part (leap_code 28 0 here (led routine (places first))) (table_code routine places (here + 8) (suc first) more) (i + 2) refl p in
-    leap_is {all} {routine} {places} (i + 2 + 2 * k) (i + 2 * suc k) (here + 8 + 8 * k) (here + 8 * suc k) (suc first + k) (first + suc k) (omega arith) (omega arith) (omega arith)
+    leap_is all routine places (i + 2 + 2 * k) (i + 2 * suc k) (here + 8 + 8 * k) (here + 8 * suc k) (suc first + k) (first + suc k) (omega arith) (omega arith) (omega arith)
     (leap_part all routine places (i + 2) (here + 8) (suc first) more k (omega arith) rest)
 
 module _ (settings : Settings) (c : MicroCode) where
@@ -50,7 +50,7 @@ module _ (settings : Settings) (c : MicroCode) where
   pub op_part : (all : List Instr) (i place : ℕ) (ops : List Op) (q : ℕ) (op : Op) → slice_get ops q ≡ Some op → IsPart all i (ops_code settings c place ops) → IsPart all (i + sum_by long (take q ops)) (code_at (place + 4 * sum_by long (take q ops)) op)
   op_part all i place [] q op e p = absurd cc
   op_part all i place (first ∷ ops) zero op e p =
-      op_is i (i + 0) place (place + 4 * 0) first op (omega arith) (omega arith) cc (first_part (code_at place first) (ops_code settings c (place + 4 * long first) ops) p)
+      op_is i (i + 0) place (place + 4 * 0) first op (omega arith) (omega arith) (cc) (first_part (code_at place first) (ops_code settings c (place + 4 * long first) ops) p)
   op_part all i place (first ∷ ops) (suc q) op e p =
       let rest = next_part (code_at place first) (ops_code settings c (place + 4 * long first) ops) (i + long first) (ap (λ k. i + k) (code_long place first)) p in
       let sum = sum_by-cons long first (take q ops) in

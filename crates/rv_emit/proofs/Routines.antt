@@ -1,10 +1,11 @@
 -- The shared routines stand in an image of a code.
-use Rattle.std.proofs.Common.{◌≡◌, ℕ, zero, suc, ◌+◌, ◌-◌, ◌*◌, ◌/◌, ◌%◌, ◌^◌, ◌<◌, ◌≤◌, ◌⊎◌, inl, inr, List, length, Option, Some, None, min, refl, sym, ap, subst, ◌∙◌, arith}
+use Rattle.std.proofs.Common.{◌≡◌, ℕ, ◌+◌, ◌*◌, ◌/◌, ◌<◌, ◌≤◌, inl, inr, length, Option, Some, subst, arith}
 use Rattle.layout_params.specs.Areas.{all_cells}
 use Rattle.layout_params.specs.declared.cell.Field.TheVariants.{F, V}
 use Rattle.layout_params.specs.Parameters.{Settings}
 use Rattle.layout_params.specs.Sizes.{Sizes}
 use Rattle.layout_params.proofs.LegalLayouts.{IsLegal, legal}
+use Rattle.sil_base.specs.declared.places.TheConstants.{FIRST_WORD}
 use Rattle.sil_micro.specs.Codes.{MicroCode, place_of, setting_of}
 use Rattle.sil_micro.specs.Operations.{scratch_words}
 use Rattle.image_file.specs.Image.{Image}
@@ -21,13 +22,14 @@ use Rattle.rv_routines.proofs.Below.{below}
 use Rattle.rv_routines.proofs.KindBytes.{sets_kind}
 use Rattle.rv_routines.proofs.StateWords.{sets_state}
 use Rattle.rv_operations.specs.declared.places.Routines.{Routines}
+use Rattle.rv_operations.specs.Ops.{IsNear}
 use Rattle.rv_operations.specs.Routines.{HasRoutines}
 use Rattle.rv_operations.specs.Switch.{led, switch_code, IsSwitch}
 use Rattle.rv_operations.proofs.Switching.{switches}
 use Rattle.rv_emit.specs.Code.{first_op, last_place, place_from, places_of, routines_at, table_code}
 use Rattle.rv_emit.proofs.Lengths.{make_long, kind_long}
 use Rattle.rv_emit.proofs.RoutineWords.{check_words, fit_words, open_words, char_words, word_words, below_words, make_words, kind_words, state_words, switch_words, leap_words}
-use Rattle.rv_emit.proofs.Targets.{IsNear, entry_near, return_near}
+use Rattle.rv_emit.proofs.Targets.{entry_near, return_near}
 use Rattle.rv_emit.proofs.Parted.{IsPart}
 use Rattle.rv_emit.proofs.WholeParts.{code, check_here, fit_f_here, fit_v_here, open_here, char_here, word_here, below_scratch_here, below_cells_here, below_state_here, state_here, make_here, kind_here, entry_here, entry_table_here, return_here, return_table_here}
 use Rattle.rv_emit.proofs.OpParts.{leap_part}

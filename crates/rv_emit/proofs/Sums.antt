@@ -1,7 +1,11 @@
 -- Sums of the lengths of the first items of a list.
-use Rattle.std.proofs.Common.{◌≡◌, ℕ, zero, suc, ◌+◌, ◌*◌, ◌<◌, ◌≤◌, List, [], ◌∷◌, ◌++◌, length, take, Some, refl, sym, ap, subst, ◌∙◌, arith}
+use Rattle.std.proofs.Common.{◌≡◌, ℕ, zero, suc, ◌+◌, ◌<◌, ◌≤◌, List, [], ◌∷◌, length, take, Some, refl, ap, arith}
 use Rattle.std.specs.Prelude.{sum_by, slice_get}
 use Rattle.std.proofs.lemmas.List.Sums.{sum_by-cons}
+
+pub take_all : {A : Type 0} (xs : List A) → take (length xs) xs ≡ xs
+take_all [] = refl
+take_all (x ∷ xs) = ap (λ ys. x ∷ ys) (take_all xs)
 
 module _ {A : Type 0} (f : A → ℕ) where
   -- one more
@@ -35,7 +39,3 @@ module _ {A : Type 0} (f : A → ℕ) where
   sum_rises some (x ∷ xs) (suc q) (suc r) h le =
       let rest = sum_rises some xs q r (omega arith) (omega arith) in
       omega (arith, sum_by-cons f x (take q xs), sum_by-cons f x (take r xs))
-
-  pub take_all : (xs : List A) → take (length xs) xs ≡ xs
-  take_all [] = refl
-  take_all (x ∷ xs) = ap (λ ys. x ∷ ys) (take_all xs)

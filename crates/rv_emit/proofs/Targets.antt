@@ -1,7 +1,7 @@
 -- The places that jumps go to are near.
-use Rattle.std.proofs.Common.{◌≡◌, ℕ, ◌+◌, ◌-◌, ◌%◌, ◌^◌, ◌<◌, ◌≤◌, List, [], ◌∷◌, length, Option, Some, None, Bool, true, false, cond, ◌==◌, ◌&&◌, refl, sym, ap, subst, ◌∙◌, arith}
+use Rattle.std.proofs.Common.{◌≡◌, ℕ, zero, suc, ◌<◌, ◌≤◌, List, [], ◌∷◌, length, Option, Some, None, Bool, true, false, cond, ◌==◌, refl, sym, subst, ◌∙◌, arith}
 use Rattle.std.proofs.lemmas.Option.{same_Some, slice_get_within, get_or_from_slice_get}
-use Rattle.std.specs.Prelude.{All, IsTrue, slice_get}
+use Rattle.std.specs.Prelude.{IsTrue, slice_get}
 use Rattle.std.specs.Option.{option_map}
 use Rattle.layout_params.specs.Parameters.{Settings}
 use Rattle.layout_params.proofs.LegalLemmas.{both_true}
@@ -24,11 +24,8 @@ use Rattle.rv_emit.proofs.Images.{IsEmitted, entry_within}
 -- what all operations keep, each does
 pub op_keeps : (test : Op → Bool) (ops : List Op) (q : ℕ) (op : Op) → IsTrue (all_ops test ops) → slice_get ops q ≡ Some op → IsTrue (test op)
 op_keeps test [] q op h e = absurd cc
-op_keeps test (first ∷ ops) q op h e = by_place q (both_true (test first) (all_ops test ops) h) e
-  where
-    by_place : (q : ℕ) → IsTrue (test first) × IsTrue (all_ops test ops) → slice_get (first ∷ ops) q ≡ Some op → IsTrue (test op)
-    by_place zero both e = subst (λ x. IsTrue (test x)) (same_Some first op e) both.0
-    by_place (suc q) both e = op_keeps test ops q op both.1 e
+op_keeps test (first ∷ ops) zero op h e = subst (λ x. IsTrue (test x)) (same_Some first op e) (both_true (test first) (all_ops test ops) h).0
+op_keeps test (first ∷ ops) (suc q) op h e = op_keeps test ops q op (both_true (test first) (all_ops test ops) h).1 e
 
 mapped : {A B : Type 0} (f : A → B) (o : Option A) (y : B) → option_map f o ≡ Some y → (x : A) × (o ≡ Some x) × (f x ≡ y)
 mapped f None y e = absurd cc

@@ -1,5 +1,5 @@
 -- The parts of a whole code, each at its place, counted in instructions.
-use Rattle.std.proofs.Common.{◌≡◌, ℕ, zero, suc, ◌+◌, ◌*◌, ◌/◌, List, [], ◌∷◌, ◌++◌, length, length-append, Option, Some, refl, arith}
+use Rattle.std.proofs.Common.{◌≡◌, ℕ, ◌+◌, ◌*◌, ◌/◌, List, ◌++◌, length, length-append, Option, Some, arith}
 use Rattle.rv_isa.specs.declared.instr.Instr.{Instr}
 use Rattle.layout_params.specs.Areas.{all_cells}
 use Rattle.layout_params.specs.declared.cell.Field.TheVariants.{F, V}
@@ -10,7 +10,7 @@ use Rattle.rv_routines.specs.Fields.{bits_of}
 use Rattle.rv_routines.specs.Codes.{check_routine, fit_routine, open_routine, char_routine, word_routine, below_routine, make_routine, kind_routine, state_routine}
 use Rattle.rv_operations.specs.declared.places.Routines.{Routines}
 use Rattle.rv_operations.specs.Switch.{switch_code}
-use Rattle.rv_emit.specs.Code.{start_code, routines_at, first_op, table_code, switch_part, place_from, places_of, ops_code, past_code, stack_top, whole_code}
+use Rattle.rv_emit.specs.Code.{start_code, routines_at, first_op, table_code, place_from, places_of, ops_code, past_code, stack_top, whole_code}
 use Rattle.rv_emit.proofs.Parted.{IsPart, whole, first_part, next_part}
 use Rattle.rv_emit.proofs.Lengths.{start_long, check_long, fit_long, open_long, char_long, word_long, below_long, state_long, make_long, kind_long, switch_long, table_long}
 

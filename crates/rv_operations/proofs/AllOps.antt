@@ -1,6 +1,5 @@
 -- All operations.
-use Rattle.std.proofs.Common.{◌≡◌, ℕ, ◌+◌, ◌*◌, ◌<◌, ◌≤◌, List, length, false, refl, subst, arith}
-use Rattle.std.specs.Int.{w64, cast_unsigned}
+use Rattle.std.proofs.Common.{◌≡◌, ℕ, ◌+◌, ◌*◌, ◌^◌, ◌<◌, ◌≤◌, List, length, false, refl, subst, arith}
 use Rattle.layout_params.specs.declared.cell.Field.TheVariants as field
 use Rattle.rv_isa.specs.declared.instr.Instr.{Instr}
 use Rattle.sil_micro.specs.declared.op.Area.TheVariants as areas

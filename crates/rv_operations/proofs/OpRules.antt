@@ -78,7 +78,7 @@ place_rules text.None h = tt
 place_rules (text.Format i) h = tt
 place_rules (text.Chars at len) h = grind arith
 
-three_true : (a b c : Bool) → IsTrue (a && b && c) → IsTrue a × IsTrue b × IsTrue c
+pub three_true : (a b c : Bool) → IsTrue (a && b && c) → IsTrue a × IsTrue b × IsTrue c
 three_true a b c h = grind arith
 
 no_text : (t : Text) → IsTrue (has_no_text t) → IsText t
@@ -94,7 +94,7 @@ no_values (values.Chars at len) h = absurd cc
 neither : (t : Text) (v : Values) → IsTrue (has_no_text t && has_no_values v) → IsText t × IsTrue (are_values v)
 neither t v h = let two = both_true (has_no_text t) (has_no_values v) h in (no_text t two.0, no_values v two.1)
 
-call_rules : (call : ℕ) (t : Text) (v : Values) → IsTrue (is_call call t v) → IsText t × IsTrue (are_values v) × (call ≤ 6)
+pub call_rules : (call : ℕ) (t : Text) (v : Values) → IsTrue (is_call call t v) → IsText t × IsTrue (are_values v) × (call ≤ 6)
 call_rules zero t v h = absurd cc
 call_rules (suc zero) t v h = absurd cc
 call_rules (suc (suc zero)) t v h = let two = both_true (has_place t) (has_no_values v) h in (place_rules t two.0, no_values v two.1, omega arith)
@@ -104,10 +104,10 @@ call_rules (suc (suc (suc (suc (suc zero))))) t v h = let two = neither t v h in
 call_rules (suc (suc (suc (suc (suc (suc zero)))))) t v h = let two = neither t v h in (two.0, two.1, omega arith)
 call_rules (suc (suc (suc (suc (suc (suc (suc n))))))) t v h = absurd cc
 
-register : (r : ℕ) → IsTrue (is_register r) → r < 16
+pub register : (r : ℕ) → IsTrue (is_register r) → r < 16
 register r h = grind arith
 
-two_registers : (a b : ℕ) → IsTrue (is_register a && is_register b) → (a < 16) × (b < 16)
+pub two_registers : (a b : ℕ) → IsTrue (is_register a && is_register b) → (a < 16) × (b < 16)
 two_registers a b h = let two = both_true (is_register a) (is_register b) h in (register a two.0, register b two.1)
 
 pub rules : (op : Op) → IsTrue (is_op op) → HasRules op

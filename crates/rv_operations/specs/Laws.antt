@@ -1,16 +1,21 @@
 -- The words of operations do what the operations do.
-use Rattle.std.specs.Prelude.{◌≡◌, ℕ, ◌+◌, ◌-◌, ◌*◌, ◌%◌, ◌^◌, ◌<◌, ◌≤◌, length, false, IsTrue, FitsSigned}
+use Rattle.std.specs.Prelude.{◌≡◌, ℕ, ◌+◌, ◌-◌, ◌*◌, ◌%◌, ◌^◌, ◌<◌, ◌≤◌, length, not, false, IsTrue, FitsSigned}
 use Rattle.std.specs.Int.{w64}
+use Rattle.std.specs.List.{flat_map}
 use Rattle.layout_params.specs.declared.cell.Field.{Field}
 use Rattle.sil_micro.specs.declared.op.Arith.{Arith}
 use Rattle.layout_params.specs.Sizes.{Sizes, is_legal}
 use Rattle.sil_micro.specs.declared.op.Op.{Op}
 use Rattle.rv_operations.specs.declared.places.Site.{Site}
 use Rattle.sil_micro.specs.declared.op.Fixed.{Fixed}
-use Rattle.sil_micro.specs.declared.op.Op.TheVariants.{Const, Copy, Arith as ArithOp, Jump, JumpIf, LoadField, StoreField, StoreCell, Begin, End}
+use Rattle.sil_micro.specs.declared.op.Op.TheVariants.{Const, Copy, Arith as ArithOp, Jump, JumpIf, LoadField, StoreField, StoreCell, UnitCall, Begin, End}
 use Rattle.sil_micro.specs.declared.op.Target.{Target}
+use Rattle.sil_micro.specs.declared.op.Text.{Text}
+use Rattle.sil_micro.specs.declared.op.Values.{Values}
 use Rattle.sil_micro.specs.declared.op.Test.{Test}
+use Rattle.sil_micro.specs.Forms.{is_op}
 use Rattle.sil_micro.specs.Operations.{act, fixed}
+use Rattle.sil_micro.specs.Pieces.{is_quiet}
 use Rattle.sil_micro.specs.States.{Setting, Micro}
 use Rattle.image_file.specs.Image.{Image}
 use Rattle.rv_emulate.specs.States.{State}
@@ -20,8 +25,8 @@ use Rattle.rv_operations.specs.Homes.{home}
 use Rattle.rv_straight.specs.Code.{AreInstrs}
 use Rattle.rv_operations.specs.Sites.{CanStand, HasRules}
 use Rattle.rv_operations.specs.Places.{Places, target_place}
-use Rattle.rv_operations.specs.Links.{fixed_bits}
-use Rattle.rv_operations.specs.Codes.{copy_code, arith_code, branch_op, load_field_code, store_field_code, store_cell_code, begin_code, end_code, instructions, op_length}
+use Rattle.rv_operations.specs.Links.{fixed_bits, text_links}
+use Rattle.rv_operations.specs.Codes.{copy_code, arith_code, branch_op, load_field_code, store_field_code, store_cell_code, begin_code, end_code, unit_call_code, instructions, op_length, text_length, values_length}
 use Rattle.rv_operations.specs.Routines.{HasRoutines}
 use Rattle.rv_operations.specs.Does.{Does, Begins, BeginsAnew}
 
@@ -89,6 +94,14 @@ LawOfEnd =
     (image : Image) (last : ℕ) (g : Setting) (places : Places) (by : ℕ) (u : Micro) (s : State)
     → by < 16 → Begins image last g (end_code by) u s
     → Does image last g places false 3 (s.pc + 12) s (act g (End by) u)
+
+-- a call on an absent unit is answered within 11; one that can't be made is stuck, and of one on an attached unit nothing is said
+abbrev pub LawOfUnitCall : Type 0
+LawOfUnitCall =
+    (image : Image) (last : ℕ) (g : Setting) (places : Places) (call unit to : ℕ) (text : Text) (values : Values) (u : Micro) (s : State)
+    → IsTrue (is_op (UnitCall call unit to text values)) → image.constants ≡ flat_map (λ t. t) g.formats → length image.constants ≤ 2 ^ 26
+    → Begins image last g (unit_call_code (text_links g.formats text) call unit to text values) u s
+    → Does image last g places (not (is_quiet (UnitCall call unit to text values))) 11 (s.pc + 4 * (text_length text + values_length values + 4)) s (act g (UnitCall call unit to text values) u)
 
 -- an operation has as many instructions as its length says, wherever it stands
 abbrev pub LawOfLengths : Type 0

@@ -74,3 +74,16 @@ LawOfStoreState =
     (image : Image) (last : ℕ) (g : Setting) (places : Places) (at from : ℕ) (u : Micro) (s : State)
     → at < 16 → from < 16 → g.bound ≤ 2 ^ 40 → HasRoutines image last g places → Begins image last g (store_word_code places.routines s.pc areas.State at from) u s
     → Does image last g places false 12 (s.pc + 16) s (act g (StoreWord areas.State at from) u)
+
+-- words of tables are read and written in 4, where they are there
+abbrev pub LawOfLoadTables : Type 0
+LawOfLoadTables =
+    (image : Image) (last : ℕ) (g : Setting) (places : Places) (to at : ℕ) (u : Micro) (s : State)
+    → to < 16 → at < 16 → Begins image last g (load_word_code places.routines s.pc areas.Tables to at) u s
+    → Does image last g places false 4 (s.pc + 16) s (act g (LoadWord areas.Tables to at) u)
+
+abbrev pub LawOfStoreTables : Type 0
+LawOfStoreTables =
+    (image : Image) (last : ℕ) (g : Setting) (places : Places) (at from : ℕ) (u : Micro) (s : State)
+    → at < 16 → from < 16 → Begins image last g (store_word_code places.routines s.pc areas.Tables at from) u s
+    → Does image last g places false 4 (s.pc + 16) s (act g (StoreWord areas.Tables at from) u)
