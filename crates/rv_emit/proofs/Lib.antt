@@ -18,11 +18,8 @@ pub mod Start
 pub mod Past
 pub mod Carrying
 pub mod Carries
-<<<<<<< HEAD
 pub mod Ops
 pub mod OpPlaces
 pub mod Steps
 pub mod CodeWords
 pub mod Rising
-=======
->>>>>>> 8ceacca1fa098b5aa8fedf9bd55386b5ea5c0964

@@ -9,7 +9,7 @@ use Rattle.layout_params.specs.Parameters.{Settings}
 use Rattle.sil_micro.specs.declared.op.Op.{Op}
 use Rattle.sil_micro.specs.declared.op.Op.TheVariants.{Const, Jump, JumpIf, UnitCall, Begin}
 use Rattle.sil_micro.specs.declared.op.Text.TheVariants as text
-use Rattle.sil_micro.specs.Codes.{MicroCode, entry_of, op_leads, setting_of, told}
+use Rattle.sil_micro.specs.Codes.{MicroCode, entry_of, op_leads, setting_of}
 use Rattle.sil_micro.specs.Forms.{all_ops, is_op}
 use Rattle.sil_micro.specs.Pieces.{names_within}
 use Rattle.rv_operations.specs.declared.places.Links.{Links}
@@ -20,6 +20,7 @@ use Rattle.rv_operations.proofs.OpRules.{rules, links_number}
 use Rattle.rv_emit.specs.Code.{number_of, places_of, site_of}
 use Rattle.rv_emit.specs.Emits.{CanEmit}
 use Rattle.rv_emit.specs.Planned.{IsWord}
+use Rattle.rv_emit.proofs.Images.{entry_within}
 
 -- what holds of an operation of a code
 pub record IsOpOf (c : MicroCode) (op : Op) : Type 0 where
@@ -40,14 +41,6 @@ test_at test (first ∷ ops) zero op h e =
     let same : first ≡ op = cc in
     subst (λ o. IsTrue (test o)) same (first_true (test first) (all_ops test ops) h)
 test_at test (first ∷ ops) (suc q) op h e = test_at test ops q op (second_true (test first) (all_ops test ops) h) e
-
-there : {A : Type 0} (o : Option (Option A)) (x : A) → told o ≡ Some x → o ≡ Some (Some x)
-there None x e = absurd cc
-there (Some o) x e = ap Some e
-
--- a statement that has an entry is one of the code's
-pub entry_within : (c : MicroCode) (k q : ℕ) → entry_of c k ≡ Some q → k < length c.entries
-entry_within c k q e = slice_get_within c.entries k (Some q) (there (slice_get c.entries k) q e)
 
 begun : (c : MicroCode) (settings : Settings) → CanEmit c settings → (q : ℕ) (op : Op) → slice_get c.ops q ≡ Some op → IsBegun op
 begun c settings can q (Begin k) e = omega (arith, entry_within c k q (can.whole.begins q k e), can.whole.few)
