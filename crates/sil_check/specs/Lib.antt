@@ -1,4 +1,5 @@
 pub mod Statements
+pub mod Built
 pub mod Standard
 pub mod StaticPlaces
 pub mod TableFaults

@@ -1,6 +1,7 @@
 // From the cards of a source to its program.
 #![tactic(auto)]
 
+mod built;
 mod places;
 mod program;
 mod source;
@@ -11,4 +12,5 @@ mod tables;
 
 pub use sil_arguments::CheckStop;
 pub use sil_shapes::fits;
+pub use built::{BUILT, is_built};
 pub use source::check;

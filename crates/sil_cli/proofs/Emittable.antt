@@ -4,7 +4,7 @@ use Rattle.std.specs.declared.result.Result.{Result}
 use Rattle.layout_params.specs.Sizes.{packed_16}
 use Rattle.layout_params.specs.Parameters.{Settings}
 use Rattle.sil_model.specs.declared.program.Program.{Program}
-use Rattle.sil_model.specs.Built.{AreBuilt}
+use Rattle.sil_check.specs.Built.{AreBuilt}
 use Rattle.sil_model.specs.WellFormed.{IsWellFormed}
 use Rattle.sil_arguments.specs.declared.stop.CheckStop.{CheckStop}
 use Rattle.sil_arguments.specs.declared.stop.CheckStop.TheVariants as check

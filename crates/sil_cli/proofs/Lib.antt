@@ -7,3 +7,4 @@ pub mod Statuses
 pub mod Whole
 pub mod Emulated
 pub mod Emittable
+mod BuiltNames

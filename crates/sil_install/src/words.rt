@@ -1,14 +1,14 @@
 // The words of a program.
 ghost use Rattle.std.specs.Prelude.{◌≡◌, length, IfOk};
 ghost use Rattle.std.specs.List.{flat_map};
-ghost use Rattle.sil_model.specs.Built.{AreBuilt};
+ghost use Rattle.macro_expand.specs.Expanded.{AreExpanded};
 ghost use Rattle.sil_model.specs.WellFormed.{IsWellFormed};
 ghost use Rattle.sil_micro.specs.Codes.{IsCode};
 ghost use Rattle.rv_emit.specs.Emits.{FitsImage};
 ghost use Rattle.sil_install.specs.Emission.{BehaveAs};
 
 use layout_params::Params;
-use macro_expand::{expand_all, law_of_built_programs};
+use macro_expand::expand_all;
 use rv_emit::{Emitted, emit};
 use sil_micro::Code;
 use sil_model::{Program, law_of_steps, law_of_units};
@@ -30,7 +30,7 @@ pub fn program_words(
     params: &Params,
 ) -> Result<Emitted, AllocError>
     requires well_formed { IsWellFormed program.now params.now.settings }
-    requires built { AreBuilt program.now }
+    requires expanded { AreExpanded program.now }
     ensures count { IfOk result (λ e. length e.places ≡ length program.now.statements) }
     ensures constants { IfOk result (λ e. e.constants ≡ flat_map (λ text. text) program.now.formats) }
     ensures image { IfOk result (λ e. FitsImage e.words e.places) }
@@ -38,7 +38,6 @@ pub fn program_words(
 {
     law_of_steps();
     law_of_units();
-    law_of_built_programs();
     let code = expand_all(alloc, program, params)?;
     code_keeps_rules(&code);
     let emitted = emit(alloc, &code, params.numbers(), params)?;

@@ -1,5 +1,5 @@
 // Which programs are expanded.
-ghost use Rattle.sil_model.specs.Built.{AreBuilt};
+ghost use Rattle.sil_check.specs.Built.{AreBuilt};
 ghost use Rattle.sil_model.specs.declared.program.Program.{Program};
 ghost use Rattle.macro_expand.specs.Expanded.{AreExpanded};
 

@@ -2,7 +2,7 @@
 use Rattle.std.proofs.Common.{◌≡◌, true, refl}
 use Rattle.sil_macros.specs.declared.names.Macro.{Macro}
 use Rattle.sil_macros.specs.declared.names.Macro.TheVariants.{Acomp, Acompc, Adjust, Aeql, Aeqlc, Aeqlic, Chkval, Decra, Deql, Divide, Endex, Getac, Getd, Getdc, Getsiz, Incra, Incrv, Lcomp, Leqlc, Mnsint, Mova, Movd, Movdic, Movv, Mult, Multc, Putac, Putd, Putdc, Putvc, Resetf, Rsetfi, Setac, Setav, Setf, Setfi, Setsiz, Setva, Setvc, Subtrt, Sum, Testf, Testfi, Vcmpic, Veql, Veqlc}
-use Rattle.sil_model.specs.Built.{is_built}
+use Rattle.sil_check.specs.Built.{is_built}
 use Rattle.macro_expand.specs.Expanded.{is_expanded}
 
 pub built_is_expanded : (name : Macro) → is_built name ≡ true → is_expanded name ≡ true
