@@ -31,7 +31,7 @@ use Rattle.sil_model.specs.declared.program.Statement.{Statement}
 use Rattle.layout_params.specs.Areas.{hidden_cells, all_cells}
 use Rattle.sil_base.specs.declared.places.TheConstants.{FIRST_ENTRY}
 use Rattle.sil_model.specs.declared.program.Specials.{Specials}
-use Rattle.sil_model.specs.Built.{AreBuilt, is_built}
+use Rattle.sil_check.specs.Built.{AreBuilt, is_built}
 use Rattle.sil_model.specs.Fits.{Bounds, FitsRow, IsStatement, bounds_of}
 use Rattle.sil_model.specs.Needs.{has_needed}
 use Rattle.sil_format.specs.FormatGrammar.{IsFormat}

@@ -1,4 +1,5 @@
 pub mod Statements
+pub mod Built
 pub mod TableFaults
 pub mod Specials
 pub mod Programs

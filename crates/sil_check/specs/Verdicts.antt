@@ -17,7 +17,7 @@ use Rattle.sil_base.specs.declared.fault_stop.FaultStop.{FaultStop}
 use Rattle.syntax_tables.specs.declared.saying.Said.{Said}
 use Rattle.syntax_tables.specs.TableFiles.{written_of}
 use Rattle.sil_model.specs.declared.program.Program.{Program}
-use Rattle.sil_model.specs.Built.{is_built}
+use Rattle.sil_check.specs.Built.{is_built}
 use Rattle.sil_arguments.specs.declared.stop.CheckStop.{CheckStop}
 use Rattle.sil_arguments.specs.declared.stop.CheckStop.TheVariants as stop
 use Rattle.sil_arguments.specs.CheckStops.{stop_below}

@@ -1,6 +1,7 @@
 // From the cards of a source to its program.
 #![tactic(auto)]
 
+mod built;
 mod program;
 mod source;
 mod specials;
@@ -9,4 +10,5 @@ mod tables;
 
 pub use sil_arguments::CheckStop;
 pub use sil_shapes::fits;
+pub use built::{BUILT, is_built};
 pub use source::check;

@@ -3,7 +3,7 @@ ghost use Rattle.std.specs.Prelude.{◌≡◌, ◌≤◌, [], length, true, All,
 ghost use Rattle.layout_params.specs.Parameters.{AreLegal};
 ghost use Rattle.sil_base.specs.Faults.{IsStopFor as IsFaultStopFor};
 ghost use Rattle.sil_cards.specs.Cards.{AreCards};
-ghost use Rattle.sil_model.specs.Built.{AreBuilt};
+ghost use Rattle.sil_check.specs.Built.{AreBuilt};
 ghost use Rattle.sil_model.specs.WellFormed.{IsTable, IsWellFormed};
 ghost use Rattle.data_asm.specs.Cells.{static_cells_of};
 ghost use Rattle.sil_symbols.specs.SymbolRules.{EndsOnce};
@@ -15,6 +15,7 @@ ghost use Rattle.sil_arguments.specs.HeldScopes.{IsBound};
 ghost use Rattle.sil_check.specs.Specials.{special_faults};
 ghost use Rattle.sil_check.specs.Verdicts.{is_assembled, is_built_source, is_built_statement, unless_faults, verdict_built, verdict_with, verdict_of, verdict, IsStopFor};
 
+use crate::built::is_built;
 use crate::program::program_over;
 use crate::specials::{special_faults, specials_of};
 use crate::statements::statements_of;
@@ -25,7 +26,7 @@ use sil_arguments::{BoundSource, CheckStop};
 use sil_base::{Fault, FaultStop, Items, MAX_CARDS, MAX_FILE_BYTES, MAX_TABLES};
 use sil_cards::Card;
 use sil_macros::{Macro, is_assembly};
-use sil_model::{Program, Table, is_built};
+use sil_model::{Program, Table};
 use sil_operands::what_is_read_is_spelled;
 use sil_shapes::{Resolution, statement_faults};
 use sil_symbols::{Stmt, law_of_values, resolve};

@@ -6,3 +6,4 @@ pub mod Codes
 pub mod Statuses
 pub mod Whole
 pub mod Emulated
+mod BuiltNames

@@ -2,7 +2,7 @@
 ghost use Rattle.std.specs.Prelude.{◌≡◌, ◌≤◌, Ok, Err, false, length, IfOk, IfErr, MatchResult, IsOkAnd};
 ghost use Rattle.sil_cards.specs.Cards.{AreCards};
 ghost use Rattle.sil_install.specs.Installed.{IsInstalled};
-ghost use Rattle.sil_model.specs.Built.{AreBuilt};
+ghost use Rattle.sil_check.specs.Built.{AreBuilt};
 ghost use Rattle.sil_model.specs.WellFormed.{IsWellFormed};
 ghost use Rattle.sil_cli.specs.Endings.{is_free};
 ghost use Rattle.sil_cli.specs.CommandFiles.{IsCheckStop};
@@ -11,6 +11,7 @@ ghost use Rattle.sil_cli.specs.Inputs.{parameters_by, cards_by, job_of, job_in};
 
 use crate::ending::Stop;
 use crate::inputs::{Inputs, Source};
+use crate::laws::law_of_built_programs;
 use layout_params::{Params, read_params};
 use sil_base::{MAX_CARDS, MAX_FILE_BYTES};
 use sil_cards::Card;
@@ -108,6 +109,7 @@ pub fn build(alloc: Global, inputs: Inputs) -> Result<Vec<u8>, Stop>
         (λ e. is_free e ≡ false → job_in (inputs_by inputs) ≡ Err e) }
     ensures cause { IfErr result IsCheckStop }
 {
+    law_of_built_programs();
     let job = make_job(alloc, inputs)?;
     Ok(sil_install::install(alloc, &job.program, &job.params)?)
 }

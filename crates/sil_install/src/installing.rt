@@ -2,8 +2,8 @@
 ghost use Rattle.std.specs.Prelude.{◌≡◌, IfOk};
 ghost use Rattle.image_file.specs.Image.{IsImage};
 ghost use Rattle.rv_emit.specs.Parts.{IsImageOf};
-ghost use Rattle.sil_model.specs.WellFormed.{IsWellFormed};
 ghost use Rattle.macro_expand.specs.Expanded.{AreExpanded};
+ghost use Rattle.sil_model.specs.WellFormed.{IsWellFormed};
 ghost use Rattle.sil_install.specs.Installed.{Behaves, IsInstalled};
 
 use crate::parts::{entries, kinds, pack_cells};
@@ -18,7 +18,7 @@ use std::alloc::{AllocError, Global};
 /// The image of a program, which behaves as the program.
 fn image_of(alloc: Global, program: &Program, params: &Params) -> Result<Image, AllocError>
     requires well_formed { IsWellFormed program.now params.now.settings }
-    requires built { AreExpanded program.now }
+    requires expanded { AreExpanded program.now }
     ensures is_image { IfOk result IsImage }
     ensures of { IfOk result (λ i. IsImageOf i program.now params.now.settings) }
     ensures behaves { IfOk result (λ i. Behaves i program.now params.now) }
@@ -52,7 +52,7 @@ fn image_of(alloc: Global, program: &Program, params: &Params) -> Result<Image, 
 /// The bytes of an image that is installed for a program. The only error is want of memory.
 pub fn install(alloc: Global, program: &Program, params: &Params) -> Result<Vec<u8>, AllocError>
     requires well_formed { IsWellFormed program.now params.now.settings }
-    requires built { AreExpanded program.now }
+    requires expanded { AreExpanded program.now }
     ensures { IfOk result (λ bytes. IsInstalled bytes.items program.now params.now) }
 {
     let image = image_of(alloc, program, params)?;

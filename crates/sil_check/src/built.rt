@@ -1,6 +1,6 @@
 // What is installed so far.
 ghost use Rattle.std.specs.Prelude.{◌≡◌};
-ghost use Rattle.sil_model.specs.Built.{is_built};
+ghost use Rattle.sil_check.specs.Built.{is_built};
 
 use sil_macros::{Macro, number_of_macro};
 

@@ -3,7 +3,7 @@ use Rattle.std.specs.Prelude.{◌≡◌, Bool, true, ◌==◌, All}
 use Rattle.std.specs.List.{list_any}
 use Rattle.sil_macros.specs.declared.names.Macro.{Macro}
 use Rattle.sil_macros.specs.Macros.{number_of}
-use Rattle.sil_model.specs.declared.built.TheConstants.{BUILT}
+use Rattle.sil_check.specs.declared.built.TheConstants.{BUILT}
 use Rattle.sil_model.specs.declared.program.Program.{Program}
 
 -- the macro is one of those that are installed
