@@ -23,3 +23,5 @@ pub mod OpPlaces
 pub mod Steps
 pub mod CodeWords
 pub mod Rising
+pub mod Fronts
+pub mod Measured
