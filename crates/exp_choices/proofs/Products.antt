@@ -1,5 +1,5 @@
 -- Products and quotients that 64 bits hold, and those that they don't hold.
-use Rattle.std.proofs.Common.{◌≡◌, zero, suc, ◌^◌, ◌-◌, ◌∙◌, ap, sym, subst, Bool, true, false, Option, Some, None, refl, arith}
+use Rattle.std.proofs.Common.{◌≡◌, zero, suc, ◌^◌, ◌-◌, ◌∙◌, ap, sym, Bool, true, false, Some, None, refl, arith}
 use Rattle.std.proofs.lemmas.Bool.Decides.{nat_tests}
 use Rattle.std.proofs.lemmas.Int.{ints, to_z-of_z, wrapping_mul_is}
 use Rattle.std.specs.Prelude.{ℤ, pos, negsuc, int_lt, int_div, FitsSigned, ◌*ℤ◌}
@@ -40,12 +40,15 @@ unfolding high_product
 by_product {P} x y f g down under over up = go (int_lt (wrapped_product x y) (pos 0)) refl where
   is : int_wrap w64 (x *ℤ y) ≡ wrapped_product x y
   is = product_is x y f g
+
   below : (b : Bool) → int_lt (wrapped_product x y) (pos 0) ≡ true → same_integer (high_half (x *ℤ y)) (negsuc 0) ≡ b → P
   below true a b = down a b (held_negative (x *ℤ y) (ap (λ w. int_lt w (pos 0)) is ∙ a) b ∙ ap Some is)
   below false a b = under a b (lost_negative (x *ℤ y) (ap (λ w. int_lt w (pos 0)) is ∙ a) b)
+
   above : (b : Bool) → int_lt (wrapped_product x y) (pos 0) ≡ false → same_integer (high_half (x *ℤ y)) (pos 0) ≡ b → P
   above true a b = up a b (held (x *ℤ y) (ap (λ w. int_lt w (pos 0)) is ∙ a) b ∙ ap Some is)
   above false a b = over a b (lost (x *ℤ y) (ap (λ w. int_lt w (pos 0)) is ∙ a) b)
+
   go : (a : Bool) → int_lt (wrapped_product x y) (pos 0) ≡ a → P
   go true a = below (same_integer (high_half (x *ℤ y)) (negsuc 0)) a refl
   go false a = above (same_integer (high_half (x *ℤ y)) (pos 0)) a refl

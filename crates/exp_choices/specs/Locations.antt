@@ -1,5 +1,5 @@
 -- Where the locations of a statement lead.
-use Rattle.std.specs.Prelude.{ℕ, ◌+◌, ◌<◌, List, All, Option, Some, None, IfSome}
+use Rattle.std.specs.Prelude.{ℕ, ◌+◌, ◌<◌, All, Option, Some, None, IfSome}
 use Rattle.sil_model.specs.declared.program.Arg.{Arg}
 use Rattle.sil_model.specs.declared.program.Arg.TheVariants.{Goto, Gotos}
 

@@ -10,9 +10,16 @@ ghost use Rattle.sil_micro.specs.Pieces.{weights};
 ghost use Rattle.exp_choices.specs.Group.{is_choice};
 ghost use Rattle.exp_choices.specs.Locations.{LocatesWithin};
 
-use crate::comparisons::{acomp, acompc, aeql, aeqlc, aeqlic, chkval, deql, lcomp, leqlc, testf, testfi, vcmpic, veql, veqlc};
+use crate::comparisons::{
+    acomp, acompc, aeql, aeqlc, aeqlic, chkval, deql, lcomp, leqlc, testf, testfi, vcmpic, veql,
+    veqlc,
+};
 use crate::integers::{divide, mnsint, mult, multc, subtrt, sum};
-use crate::operands::{place_flag_answer, place_number_answer, place_number_order, place_number_place_order, place_numbers_answer, places_answer, places_number, places_order, places_spec_order, spec_number_answer, specs_order, three_places_answer};
+use crate::operands::{
+    place_flag_answer, place_number_answer, place_number_order, place_number_place_order,
+    place_numbers_answer, places_answer, places_number, places_order, places_spec_order,
+    spec_number_answer, specs_order, three_places_answer,
+};
 use sil_base::MAX_STATEMENTS;
 use sil_macros::Macro;
 use sil_micro::{Code, MAX_PIECE_WEIGHT, has_room};

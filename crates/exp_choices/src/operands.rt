@@ -12,7 +12,21 @@ pub(crate) fn places_order(args: &[Arg]) -> (i64, i64, ByOrder)
     ensures { args.now ≡ Place result.0 ∷ Place result.1 ∷ Goto result.2.greater ∷ Goto result.2.equal ∷ Goto result.2.less ∷ [] }
 {
     match args {
-        [Arg::Place(x1), Arg::Place(x2), Arg::Goto(greater), Arg::Goto(equal), Arg::Goto(less)] => (*x1, *x2, ByOrder { greater: *greater, equal: *equal, less: *less }),
+        [
+            Arg::Place(x1),
+            Arg::Place(x2),
+            Arg::Goto(greater),
+            Arg::Goto(equal),
+            Arg::Goto(less),
+        ] => (
+            *x1,
+            *x2,
+            ByOrder {
+                greater: *greater,
+                equal: *equal,
+                less: *less,
+            },
+        ),
         _ => unreachable!(),
     }
 }
@@ -22,7 +36,21 @@ pub(crate) fn specs_order(args: &[Arg]) -> (i64, i64, ByOrder)
     ensures { args.now ≡ Place result.0 ∷ Place result.1 ∷ Goto result.2.greater ∷ Goto result.2.equal ∷ Goto result.2.less ∷ [] }
 {
     match args {
-        [Arg::Place(x1), Arg::Place(x2), Arg::Goto(greater), Arg::Goto(equal), Arg::Goto(less)] => (*x1, *x2, ByOrder { greater: *greater, equal: *equal, less: *less }),
+        [
+            Arg::Place(x1),
+            Arg::Place(x2),
+            Arg::Goto(greater),
+            Arg::Goto(equal),
+            Arg::Goto(less),
+        ] => (
+            *x1,
+            *x2,
+            ByOrder {
+                greater: *greater,
+                equal: *equal,
+                less: *less,
+            },
+        ),
         _ => unreachable!(),
     }
 }
@@ -32,7 +60,21 @@ pub(crate) fn place_number_order(args: &[Arg]) -> (i64, i64, ByOrder)
     ensures { args.now ≡ Place result.0 ∷ Number result.1 ∷ Goto result.2.greater ∷ Goto result.2.equal ∷ Goto result.2.less ∷ [] }
 {
     match args {
-        [Arg::Place(x1), Arg::Number(x2), Arg::Goto(greater), Arg::Goto(equal), Arg::Goto(less)] => (*x1, *x2, ByOrder { greater: *greater, equal: *equal, less: *less }),
+        [
+            Arg::Place(x1),
+            Arg::Number(x2),
+            Arg::Goto(greater),
+            Arg::Goto(equal),
+            Arg::Goto(less),
+        ] => (
+            *x1,
+            *x2,
+            ByOrder {
+                greater: *greater,
+                equal: *equal,
+                less: *less,
+            },
+        ),
         _ => unreachable!(),
     }
 }
@@ -42,7 +84,23 @@ pub(crate) fn places_spec_order(args: &[Arg]) -> (i64, i64, i64, ByOrder)
     ensures { args.now ≡ Place result.0 ∷ Place result.1 ∷ Place result.2 ∷ Goto result.3.greater ∷ Goto result.3.equal ∷ Goto result.3.less ∷ [] }
 {
     match args {
-        [Arg::Place(x1), Arg::Place(x2), Arg::Place(x3), Arg::Goto(greater), Arg::Goto(equal), Arg::Goto(less)] => (*x1, *x2, *x3, ByOrder { greater: *greater, equal: *equal, less: *less }),
+        [
+            Arg::Place(x1),
+            Arg::Place(x2),
+            Arg::Place(x3),
+            Arg::Goto(greater),
+            Arg::Goto(equal),
+            Arg::Goto(less),
+        ] => (
+            *x1,
+            *x2,
+            *x3,
+            ByOrder {
+                greater: *greater,
+                equal: *equal,
+                less: *less,
+            },
+        ),
         _ => unreachable!(),
     }
 }
@@ -52,7 +110,23 @@ pub(crate) fn place_number_place_order(args: &[Arg]) -> (i64, i64, i64, ByOrder)
     ensures { args.now ≡ Place result.0 ∷ Number result.1 ∷ Place result.2 ∷ Goto result.3.greater ∷ Goto result.3.equal ∷ Goto result.3.less ∷ [] }
 {
     match args {
-        [Arg::Place(x1), Arg::Number(x2), Arg::Place(x3), Arg::Goto(greater), Arg::Goto(equal), Arg::Goto(less)] => (*x1, *x2, *x3, ByOrder { greater: *greater, equal: *equal, less: *less }),
+        [
+            Arg::Place(x1),
+            Arg::Number(x2),
+            Arg::Place(x3),
+            Arg::Goto(greater),
+            Arg::Goto(equal),
+            Arg::Goto(less),
+        ] => (
+            *x1,
+            *x2,
+            *x3,
+            ByOrder {
+                greater: *greater,
+                equal: *equal,
+                less: *less,
+            },
+        ),
         _ => unreachable!(),
     }
 }
@@ -62,7 +136,12 @@ pub(crate) fn places_answer(args: &[Arg]) -> (i64, i64, ByAnswer)
     ensures { args.now ≡ Place result.0 ∷ Place result.1 ∷ Goto result.2.no ∷ Goto result.2.yes ∷ [] }
 {
     match args {
-        [Arg::Place(x1), Arg::Place(x2), Arg::Goto(no), Arg::Goto(yes)] => (*x1, *x2, ByAnswer { no: *no, yes: *yes }),
+        [
+            Arg::Place(x1),
+            Arg::Place(x2),
+            Arg::Goto(no),
+            Arg::Goto(yes),
+        ] => (*x1, *x2, ByAnswer { no: *no, yes: *yes }),
         _ => unreachable!(),
     }
 }
@@ -72,7 +151,12 @@ pub(crate) fn place_number_answer(args: &[Arg]) -> (i64, i64, ByAnswer)
     ensures { args.now ≡ Place result.0 ∷ Number result.1 ∷ Goto result.2.no ∷ Goto result.2.yes ∷ [] }
 {
     match args {
-        [Arg::Place(x1), Arg::Number(x2), Arg::Goto(no), Arg::Goto(yes)] => (*x1, *x2, ByAnswer { no: *no, yes: *yes }),
+        [
+            Arg::Place(x1),
+            Arg::Number(x2),
+            Arg::Goto(no),
+            Arg::Goto(yes),
+        ] => (*x1, *x2, ByAnswer { no: *no, yes: *yes }),
         _ => unreachable!(),
     }
 }
@@ -82,7 +166,12 @@ pub(crate) fn spec_number_answer(args: &[Arg]) -> (i64, i64, ByAnswer)
     ensures { args.now ≡ Place result.0 ∷ Number result.1 ∷ Goto result.2.no ∷ Goto result.2.yes ∷ [] }
 {
     match args {
-        [Arg::Place(x1), Arg::Number(x2), Arg::Goto(no), Arg::Goto(yes)] => (*x1, *x2, ByAnswer { no: *no, yes: *yes }),
+        [
+            Arg::Place(x1),
+            Arg::Number(x2),
+            Arg::Goto(no),
+            Arg::Goto(yes),
+        ] => (*x1, *x2, ByAnswer { no: *no, yes: *yes }),
         _ => unreachable!(),
     }
 }
@@ -92,7 +181,13 @@ pub(crate) fn place_numbers_answer(args: &[Arg]) -> (i64, i64, i64, ByAnswer)
     ensures { args.now ≡ Place result.0 ∷ Number result.1 ∷ Number result.2 ∷ Goto result.3.no ∷ Goto result.3.yes ∷ [] }
 {
     match args {
-        [Arg::Place(x1), Arg::Number(x2), Arg::Number(x3), Arg::Goto(no), Arg::Goto(yes)] => (*x1, *x2, *x3, ByAnswer { no: *no, yes: *yes }),
+        [
+            Arg::Place(x1),
+            Arg::Number(x2),
+            Arg::Number(x3),
+            Arg::Goto(no),
+            Arg::Goto(yes),
+        ] => (*x1, *x2, *x3, ByAnswer { no: *no, yes: *yes }),
         _ => unreachable!(),
     }
 }
@@ -102,7 +197,11 @@ pub(crate) fn place_flag_answer(args: &[Arg]) -> (i64, u32, ByAnswer)
     ensures { args.now ≡ Place result.0 ∷ Flag result.1 ∷ Goto result.2.no ∷ Goto result.2.yes ∷ [] }
 {
     match args {
-        [Arg::Place(x1), Arg::Flag(x2), Arg::Goto(no), Arg::Goto(yes)] => (*x1, *x2, ByAnswer { no: *no, yes: *yes }),
+        [Arg::Place(x1), Arg::Flag(x2), Arg::Goto(no), Arg::Goto(yes)] => (
+            *x1,
+            *x2,
+            ByAnswer { no: *no, yes: *yes },
+        ),
         _ => unreachable!(),
     }
 }
@@ -112,7 +211,13 @@ pub(crate) fn three_places_answer(args: &[Arg]) -> (i64, i64, i64, ByAnswer)
     ensures { args.now ≡ Place result.0 ∷ Place result.1 ∷ Place result.2 ∷ Goto result.3.no ∷ Goto result.3.yes ∷ [] }
 {
     match args {
-        [Arg::Place(x1), Arg::Place(x2), Arg::Place(x3), Arg::Goto(no), Arg::Goto(yes)] => (*x1, *x2, *x3, ByAnswer { no: *no, yes: *yes }),
+        [
+            Arg::Place(x1),
+            Arg::Place(x2),
+            Arg::Place(x3),
+            Arg::Goto(no),
+            Arg::Goto(yes),
+        ] => (*x1, *x2, *x3, ByAnswer { no: *no, yes: *yes }),
         _ => unreachable!(),
     }
 }

@@ -30,6 +30,13 @@ pub(crate) fn number_64(bytes: &[u8]) -> u64
     LittleEndian::read_u64(bytes)
 }
 
+/// The byte of a number.
+pub(crate) fn bytes_8(n: u8) -> [u8; 1]
+    ensures { result ≡ low_bytes 1 n }
+{
+    n.to_le_bytes()
+}
+
 /// The two bytes of a number.
 pub(crate) fn bytes_16(n: u16) -> [u8; 2]
     ensures { result ≡ low_bytes 2 n }

@@ -2,7 +2,7 @@
 ghost use Rattle.std.specs.Prelude.{◌≡◌, ◌≤◌, length};
 ghost use Rattle.image_file.specs.TableEntries.{table_entry, entry_fits};
 
-use crate::numbers::{bytes_16, bytes_64, number_16, number_32, number_64};
+use crate::numbers::{bytes_8, bytes_16, bytes_64, number_16, number_32, number_64};
 use sil_base::MAX_TABLES;
 
 /// The bytes of an entry.
@@ -26,8 +26,8 @@ pub fn table_entry(action: u8, puts: u8, next: u16, put: u64) -> [u8; TABLE_ENTR
     ensures { result ≡ table_entry action puts next put }
 {
     let mut bytes = [0; TABLE_ENTRY_BYTES];
-    bytes[ACTION_AT..PUTS_AT].copy_from_slice(&action.to_le_bytes());
-    bytes[PUTS_AT..NEXT_AT].copy_from_slice(&puts.to_le_bytes());
+    bytes[ACTION_AT..PUTS_AT].copy_from_slice(&bytes_8(action));
+    bytes[PUTS_AT..NEXT_AT].copy_from_slice(&bytes_8(puts));
     bytes[NEXT_AT..ZEROS_AT].copy_from_slice(&bytes_16(next));
     bytes[PUT_AT..TABLE_ENTRY_BYTES].copy_from_slice(&bytes_64(put));
     bytes

@@ -2,4 +2,4 @@ mod Growing
 mod Stepping
 mod Running
 mod Costs
-mod Names
+pub mod Locating

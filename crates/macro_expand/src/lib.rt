@@ -2,7 +2,5 @@
 #![tactic(auto)]
 
 mod expansion;
-mod laws;
 
 pub use expansion::expand_all;
-pub use laws::law_of_built_programs;

@@ -19,14 +19,14 @@ fn files_of(rt: &HostRuntime, folder: &str) -> io::Result<MemoryStore> {
     Ok(store)
 }
 
-/// `go` on the files of an example, for at most five steps.
+/// `go` on the files of an example, for at most a hundred steps.
 fn words_of(alloc: Global, folder: &str) -> io::Result<Vec<String>> {
     let mut words = Vec::new(alloc);
     words.push(String::from_str(alloc, "go")?)?;
     for name in ["source", "tables", "params", "image"] {
         words.push(format!(in alloc; "{folder}/{name}")?)?;
     }
-    words.push(String::from_str(alloc, "5")?)?;
+    words.push(String::from_str(alloc, "100")?)?;
     Ok(words)
 }
 

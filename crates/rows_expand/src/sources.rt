@@ -1,9 +1,10 @@
 // The code of a source.
 use layout_params::{STANDARD_PARAMS, read_params};
-use macro_expand::{expand_all, law_of_built_programs};
+use macro_expand::expand_all;
 use sil_base::MemoryStore;
 use sil_cards::read_cards;
 use sil_check::check;
+use sil_cli::law_of_built_programs;
 use sil_micro::Code;
 use std::alloc::Global;
 use std::test::Fail;

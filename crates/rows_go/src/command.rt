@@ -134,9 +134,9 @@ static REFUSED: [(&[u8], u8, &[u8]); 18] = [
     (b"X DESCR 0,65536\n MOVD X\n END\n", 3, b"source 2 S1\n"),
     (b"L BRANCH L\n END\n", 16, b"not built\n"),
     (b"F FORMAT '(I3)'\n END\n", 16, b"not built\n"),
-    (b" ENDEX X+1\nX DESCR\n END\n", 16, b"not built\n"),
-    (b" ENDEX X+DESCR\nX DESCR\n END\n", 16, b"not built\n"),
-    (b" ENDEX B\nB BUFFER 1\n END\n", 16, b"not built\n"),
+    (b" ENDEX X+1\nX DESCR\n END\n", 7, b"undefined 0\n"),
+    (b" ENDEX X+DESCR\nX DESCR\n END\n", 0, b"exit 0\n"),
+    (b" ENDEX B\nB BUFFER 1\n END\n", 7, b"undefined 0\n"),
     (b" ENDEX X,X\nX DESCR\n END\n", 3, b"source 1 S1\n"),
 ];
 
@@ -153,7 +153,7 @@ static PARAMETERS: [(&[u8], &[u8], &[u8], u8, &[u8]); 7] = [
         3,
         b"source 1 C3\nsource 2 C8\n",
     ),
-    (b"DESCR 16", b"DESCR 24", ENDS_BY_ZERO, 16, b"not built\n"),
+    (b"DESCR 16", b"DESCR 24", ENDS_BY_ZERO, 0, b"exit 0\n"),
     (b"STSIZE 64", b"STSIZE 65536", ENDS_BY_ZERO, 0, b"exit 0\n"),
 ];
 

@@ -7,11 +7,13 @@ mod descriptors;
 mod integers;
 mod row;
 
+pub use comparisons::COMPARISONS;
+pub use descriptors::DESCRIPTORS;
+pub use integers::INTEGERS;
+pub use row::{Op, Row};
+
 use characters::{CHARACTERS, holds_over_characters};
-use comparisons::COMPARISONS;
-use descriptors::DESCRIPTORS;
-use integers::INTEGERS;
-use row::{Row, holds};
+use row::holds;
 use std::alloc::Global;
 use std::test::Fail;
 

@@ -51,14 +51,14 @@ static SOURCES: [(&[u8], Outcome); 25] = [
         b" MOVD A+32,S\n MOVD S+16,P+16\nA ARRAY 3\nS STRING 'AB'\nP SPEC\n END\n",
         Outcome::Built,
     ),
-    (b" ENDEX S+32\nS STRING 'AB'\n END\n", Outcome::NotBuilt),
-    (b" ENDEX B\nB BUFFER 1\n END\n", Outcome::NotBuilt),
-    (b" ENDEX X+16\nX DESCR\n END\n", Outcome::NotBuilt),
-    (b" ENDEX X-16\nX DESCR\n END\n", Outcome::NotBuilt),
-    (b" ENDEX X+8\nX DESCR\n END\n", Outcome::NotBuilt),
-    (b" ENDEX -1\n END\n", Outcome::NotBuilt),
+    (b" ENDEX S+32\nS STRING 'AB'\n END\n", Outcome::Built),
+    (b" ENDEX B\nB BUFFER 1\n END\n", Outcome::Built),
+    (b" ENDEX X+16\nX DESCR\n END\n", Outcome::Built),
+    (b" ENDEX X-16\nX DESCR\n END\n", Outcome::Built),
+    (b" ENDEX X+8\nX DESCR\n END\n", Outcome::Built),
+    (b" ENDEX -1\n END\n", Outcome::Built),
     (b" ENDEX 1073741824\nX DESCR\n END\n", Outcome::Built),
-    (b"X ENDEX X\n END\n", Outcome::NotBuilt),
+    (b"X ENDEX X\n END\n", Outcome::Built),
 ];
 
 /// Sources, tables and parameters.
@@ -103,7 +103,7 @@ static OTHERS: [(&[u8], &[u8], &[u8], Outcome); 8] = [
         b" ENDEX Z\nZ DESCR\n END\n",
         b"",
         WIDE_PARAMS,
-        Outcome::NotBuilt,
+        Outcome::Built,
     ),
     (
         b" ENDEX Q\n END\n",

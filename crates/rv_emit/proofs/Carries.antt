@@ -1,5 +1,5 @@
 -- An image of emitted words carries the operations out.
-use Rattle.std.proofs.Common.{◌≡◌, ℕ, suc, ◌+◌, ◌-◌, ◌*◌, ◌/◌, ◌%◌, ◌^◌, ◌<◌, ◌≤◌, List, length, map, get_or, Option, Some, Bool, true, false, cond, ◌==◌, refl, sym, ap, subst, ◌∙◌, arith}
+use Rattle.std.proofs.Common.{◌≡◌, ℕ, ◌+◌, ◌-◌, ◌*◌, ◌/◌, ◌^◌, ◌<◌, ◌≤◌, length, map, get_or, Some, Bool, true, false, cond, ◌==◌, refl, sym, ap, subst, ◌∙◌, arith}
 use Rattle.std.proofs.lemmas.List.{get_or_past, length-map}
 use Rattle.std.proofs.lemmas.Nat.{mul-le}
 use Rattle.std.proofs.lemmas.Option.{get_or_from_slice_get, same_Some}
@@ -7,7 +7,7 @@ use Rattle.std.specs.Prelude.{sum_by}
 use Rattle.sil_base.specs.declared.limits.TheConstants.{MAX_STEPS, STATEMENT_INSTRUCTIONS}
 use Rattle.sil_base.specs.declared.places.TheConstants.{FIRST_WORD}
 use Rattle.unit_io.specs.Tapes.{Tapes}
-use Rattle.layout_params.specs.Areas.{hidden_cells, all_cells}
+use Rattle.layout_params.specs.Areas.{hidden_cells}
 use Rattle.layout_params.specs.Parameters.{Settings}
 use Rattle.layout_params.proofs.LegalLayouts.{legal}
 use Rattle.sil_micro.specs.Codes.{MicroCode, entry_of, place_of}
@@ -20,8 +20,8 @@ use Rattle.rv_straight.specs.Registers.{IsFile}
 use Rattle.rv_straight.specs.InstalledWays.{Comes}
 use Rattle.rv_straight.proofs.Leaps.{code_at}
 use Rattle.rv_operations.specs.Ops.{length_of}
-use Rattle.rv_emit.specs.Carries.{HasRegions, Starts, CarriesOps}
-use Rattle.rv_emit.specs.Code.{first_op, last_place, op_place, place_from, places_of, ops_code, past_code, stack_top, start_code}
+use Rattle.rv_emit.specs.Carries.{HasRegions, Starts}
+use Rattle.rv_emit.specs.Code.{first_op, last_place, op_place, place_from, ops_code, past_code, stack_top, start_code}
 use Rattle.rv_emit.specs.Emits.{LawOfEmission}
 use Rattle.rv_emit.specs.Ways.{place}
 use Rattle.rv_emit.proofs.Sums.{take_all}

@@ -1,15 +1,12 @@
 -- The run does what an operation of the code does, where the operation stands.
-use Rattle.std.proofs.Common.{◌≡◌, ℕ, suc, ◌+◌, ◌-◌, ◌*◌, ◌/◌, ◌%◌, ◌^◌, ◌<◌, ◌≤◌, List, [], ◌∷◌, ◌++◌, length, take, length-append, Some, refl, sym, ap, subst, ◌∙◌, arith}
+use Rattle.std.proofs.Common.{◌≡◌, ℕ, suc, ◌+◌, ◌*◌, ◌/◌, ◌^◌, ◌<◌, ◌≤◌, List, [], ◌∷◌, length, take, length-append, Some, refl, sym, ap, subst, ◌∙◌, arith}
 use Rattle.std.proofs.lemmas.Option.{slice_get_within}
 use Rattle.std.proofs.lemmas.List.Sums.{sum_by-cons}
-use Rattle.std.specs.Prelude.{IsTrue, not, slice_get, sum_by}
-use Rattle.std.specs.Int.{w64, cast_unsigned}
+use Rattle.std.specs.Prelude.{not, slice_get, sum_by}
 use Rattle.std.specs.List.{flat_map}
-use Rattle.sil_base.specs.declared.limits.TheConstants.{MAX_CONSTANT_BYTES, MAX_STEPS}
+use Rattle.sil_base.specs.declared.limits.TheConstants.{MAX_STEPS}
 use Rattle.sil_base.specs.declared.places.TheConstants.{FIRST_WORD}
-use Rattle.rv_isa.specs.declared.instr.Instr.{Instr}
 use Rattle.layout_params.specs.Parameters.{Settings}
-use Rattle.sil_micro.specs.declared.op.Fixed.{Fixed}
 use Rattle.sil_micro.specs.declared.op.Op.{Op}
 use Rattle.sil_micro.specs.declared.op.Op.TheVariants.{Const, Begin}
 use Rattle.sil_micro.specs.Codes.{MicroCode, setting_of}

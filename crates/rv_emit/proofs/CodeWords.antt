@@ -158,10 +158,10 @@ module _ (law : LawOfOpWords) (settings : Settings) (c : MicroCode) (can : CanEm
       let start = start_words (stack_top settings c) (place_from settings c (place_of c 0)) stack_low in
       let to_entry = are_both (switch_code settings.sizes.descr (length c.entries) r.entry (r.entry + 64)) (table_code r.entry by_entry (r.entry + 64) 0 (length c.entries)) (switch_words settings.sizes.descr (length c.entries) r.entry d count) (table_words r.entry by_entry (r.entry + 64) 0 (length c.entries)) in
       let to_return = are_both (switch_code settings.sizes.descr (length c.entries) r.return_part (r.return_part + 64)) (table_code r.return_part (places_of settings c).returns (r.return_part + 64) 0 (length c.entries)) (switch_words settings.sizes.descr (length c.entries) r.return_part d count) (table_words r.return_part (places_of settings c).returns (r.return_part + 64) 0 (length c.entries)) in
-      are_both _ (switch_part settings.sizes.descr (length c.entries) r.return_part (places_of settings c).returns)
-      (are_both _ (switch_part settings.sizes.descr (length c.entries) r.entry by_entry)
-      (are_both (start_code (stack_top settings c) (place_from settings c (place_of c 0))) (routines_code settings.sizes (all_cells settings c.static_cells)) start (routines_are settings.sizes (all_cells settings c.static_cells) can.legal.layout can.cells))
-      to_entry)
+      let routines = routines_code settings.sizes (all_cells settings c.static_cells) in
+      let first = start_code (stack_top settings c) (place_from settings c (place_of c 0)) in
+      are_both (first ++ routines ++ switch_part settings.sizes.descr (length c.entries) r.entry by_entry) (switch_part settings.sizes.descr (length c.entries) r.return_part (places_of settings c).returns)
+      (are_both (first ++ routines) (switch_part settings.sizes.descr (length c.entries) r.entry by_entry) (are_both first routines start (routines_are settings.sizes (all_cells settings c.static_cells) can.legal.layout can.cells)) to_entry)
       to_return
 
   whole_are : AreInstrs (whole_code settings c)

@@ -1,5 +1,5 @@
 -- Where no statement's place is.
-use Rattle.std.proofs.Common.{◌≡◌, ◌≢◌, ℕ, suc, ◌+◌, ◌<◌, ◌≤◌, List, length, map, Some, None, true, false, ◌⊎◌, inl, inr, refl, sym, ap, ◌∙◌, arith}
+use Rattle.std.proofs.Common.{◌≡◌, ◌≢◌, ℕ, suc, ◌<◌, ◌≤◌, length, map, Some, None, false, ◌⊎◌, inl, inr, sym, ap, ◌∙◌, arith}
 use Rattle.std.proofs.lemmas.Bool.{cases_lt}
 use Rattle.std.proofs.lemmas.Option.{slice_get_within, same_Some}
 use Rattle.std.specs.Prelude.{slice_get, IsTrue}
@@ -70,9 +70,9 @@ module _ {image : Image} {settings : Settings} {c : MicroCode} (em : IsEmitted i
     where
       differs : (k i : ℕ) → slice_get c.ops i ≡ Some (Begin k) → q ≢ i
       differs k i h = λ same.
-        let one : op ≡ Begin k = same_Some op (Begin k) (sym e ∙ ap (λ j. slice_get c.ops j) same ∙ h) in
-        let no : is_no_begin op ≡ false = ap is_no_begin one in
-        absurd cc
+          let one : op ≡ Begin k = same_Some op (Begin k) (sym e ∙ ap (λ j. slice_get c.ops j) same ∙ h) in
+          let no : is_no_begin op ≡ false = ap is_no_begin one in
+          absurd cc
 
   -- at a statement's Begin
   pub statement_place : (k p : ℕ) → slice_get (map (λ e. e.place) image.statements) k ≡ Some p → entry_at image.statements p ≡ Some k

@@ -1,5 +1,5 @@
 -- An image of emitted words, and the places of its statements.
-use Rattle.std.proofs.Common.{◌≡◌, ℕ, ◌+◌, ◌<◌, ◌≤◌, List, length, map, Option, Some, None, Bool, true, false, cond, ◌==◌, refl, sym, ap, ◌∙◌, arith}
+use Rattle.std.proofs.Common.{◌≡◌, ℕ, ◌<◌, length, map, Option, Some, None, Bool, true, false, cond, ◌==◌, refl, sym, ap, ◌∙◌, arith}
 use Rattle.std.proofs.lemmas.List.{length-map}
 use Rattle.std.proofs.lemmas.Option.{slice_get-map, slice_get_within, same_Some}
 use Rattle.std.specs.Prelude.{All, slice_get}
@@ -9,7 +9,7 @@ use Rattle.layout_params.specs.Parameters.{Settings}
 use Rattle.sil_micro.specs.declared.op.Op.TheVariants.{Begin}
 use Rattle.sil_micro.specs.Codes.{MicroCode, told, entry_of, place_of}
 use Rattle.image_file.specs.Image.{Image}
-use Rattle.rv_emit.specs.Code.{op_place, place_from, places_of}
+use Rattle.rv_emit.specs.Code.{op_place, place_from}
 use Rattle.rv_emit.specs.Emits.{CanEmit, HasNumber, words_of, statement_places}
 
 -- an image with the words and the places of a code, and the texts of its formats

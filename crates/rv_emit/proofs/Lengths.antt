@@ -1,12 +1,12 @@
 -- How long the parts before the operations are.
-use Rattle.std.proofs.Common.{◌≡◌, ℕ, zero, suc, ◌+◌, ◌*◌, ◌/◌, List, [], ◌∷◌, ◌++◌, length, length-append, Option, refl, ap, arith}
+use Rattle.std.proofs.Common.{◌≡◌, ℕ, zero, suc, ◌+◌, ◌*◌, ◌/◌, [], ◌∷◌, ◌++◌, length, length-append, Option, refl, ap, arith}
 use Rattle.std.specs.Prelude.{pos}
 use Rattle.rv_isa.specs.declared.instr.IOp.TheVariants.{Jalr}
 use Rattle.rv_isa.specs.declared.instr.Instr.TheVariants.{I}
 use Rattle.rv_straight.specs.Jumps.{leap_code}
 use Rattle.rv_routines.specs.RoutineCodes.{zeros_code, check_routine, fit_routine, open_routine, char_routine, word_routine, below_routine, make_routine, kind_routine, state_routine}
 use Rattle.rv_operations.specs.Switch.{switch_code, led}
-use Rattle.rv_emit.specs.Code.{start_code, table_code, switch_part}
+use Rattle.rv_emit.specs.Code.{start_code, table_code}
 
 pub start_long : (top to : ℕ) → length (start_code top to) ≡ 7
 start_long top to = refl

@@ -8,11 +8,6 @@ pub mod Placed
 pub mod Entries
 pub mod WholeParts
 pub mod OpParts
-pub mod Ops
-pub mod OpPlaces
-pub mod Steps
-pub mod CodeWords
-pub mod Rising
 pub mod Images
 pub mod Free
 pub mod Standing
@@ -23,3 +18,10 @@ pub mod Start
 pub mod Past
 pub mod Carrying
 pub mod Carries
+pub mod Ops
+pub mod OpPlaces
+pub mod Steps
+pub mod CodeWords
+pub mod Rising
+pub mod Fronts
+pub mod Measured

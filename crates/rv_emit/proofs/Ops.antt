@@ -3,23 +3,25 @@ use Rattle.std.proofs.Common.{◌≡◌, ℕ, zero, suc, ◌+◌, ◌-◌, ◌^�
 use Rattle.std.proofs.lemmas.Bool.{cases_lt}
 use Rattle.std.proofs.lemmas.List.{get_or_past}
 use Rattle.std.proofs.lemmas.List.Sums.{sum_by-take-le}
-use Rattle.std.proofs.lemmas.Option.{slice_get_within, get_or_from_slice_get, same_Some}
-use Rattle.std.specs.Prelude.{All, IsTrue, slice_get, sum_by, ◌&&◌}
+use Rattle.std.proofs.lemmas.Option.{slice_get-get_or, slice_get_within, same_Some}
+use Rattle.std.specs.Prelude.{All, IsTrue, pos, slice_get, sum_by, ◌&&◌}
 use Rattle.layout_params.specs.Parameters.{Settings}
+use Rattle.sil_micro.specs.declared.op.Fixed.TheVariants.{Number}
 use Rattle.sil_micro.specs.declared.op.Op.{Op}
 use Rattle.sil_micro.specs.declared.op.Op.TheVariants.{Const, Jump, JumpIf, UnitCall, Begin}
 use Rattle.sil_micro.specs.declared.op.Text.TheVariants as text
-use Rattle.sil_micro.specs.Codes.{MicroCode, entry_of, op_leads, setting_of, told}
+use Rattle.sil_micro.specs.Codes.{MicroCode, entry_of, op_leads}
 use Rattle.sil_micro.specs.Forms.{all_ops, is_op}
 use Rattle.sil_micro.specs.Pieces.{names_within}
 use Rattle.rv_operations.specs.declared.places.Links.{Links}
 use Rattle.rv_operations.specs.Links.{format_length, format_place, links_of}
 use Rattle.rv_operations.specs.CodePlaces.{Places}
 use Rattle.rv_operations.specs.OpSites.{CanStand, HasRules, IsBegun}
-use Rattle.rv_operations.proofs.OpRules.{rules, links_number}
+use Rattle.rv_operations.proofs.OpRules.{rules}
 use Rattle.rv_emit.specs.Code.{number_of, places_of, site_of}
 use Rattle.rv_emit.specs.Emits.{CanEmit}
 use Rattle.rv_emit.specs.Planned.{IsWord}
+use Rattle.rv_emit.proofs.Images.{entry_within}
 
 -- what holds of an operation of a code
 pub record IsOpOf (c : MicroCode) (op : Op) : Type 0 where
@@ -40,14 +42,6 @@ test_at test (first ∷ ops) zero op h e =
     let same : first ≡ op = cc in
     subst (λ o. IsTrue (test o)) same (first_true (test first) (all_ops test ops) h)
 test_at test (first ∷ ops) (suc q) op h e = test_at test ops q op (second_true (test first) (all_ops test ops) h) e
-
-there : {A : Type 0} (o : Option (Option A)) (x : A) → told o ≡ Some x → o ≡ Some (Some x)
-there None x e = absurd cc
-there (Some o) x e = ap Some e
-
--- a statement that has an entry is one of the code's
-pub entry_within : (c : MicroCode) (k q : ℕ) → entry_of c k ≡ Some q → k < length c.entries
-entry_within c k q e = slice_get_within c.entries k (Some q) (there (slice_get c.entries k) q e)
 
 begun : (c : MicroCode) (settings : Settings) → CanEmit c settings → (q : ℕ) (op : Op) → slice_get c.ops q ≡ Some op → IsBegun op
 begun c settings can q (Begin k) e = omega (arith, entry_within c k q (can.whole.begins q k e), can.whole.few)
@@ -99,4 +93,21 @@ can_stand c settings can op of place low =
     record { place = low; text = near.0; text_len = near.1; number = of.begun }
 
 pub number_fits : (c : MicroCode) (settings : Settings) (op : Op) → IsWord settings c.static_cells op → (links_of settings c.static_cells c.formats (places_of settings c) op).number < 2 ^ 64
-number_fits c settings op word = omega (arith, links_number (setting_of c settings 0) (places_of settings c) op, word.fits)
+number_fits c settings (Const to value) word = word.fits
+number_fits c settings (Jump to) word = omega arith
+number_fits c settings (JumpIf test left right to) word = omega arith
+number_fits c settings (UnitCall call unit to text.None values) word = omega arith
+number_fits c settings (UnitCall call unit to (text.Format i) values) word = omega arith
+number_fits c settings (UnitCall call unit to (text.Chars at len) values) word = omega arith
+number_fits c settings _ word = omega arith
+
+-- ---- the operation of a number, as code reads it
+
+abbrev pub no_op : Op
+no_op = Const 0 (Number (pos 0))
+
+pub op_there : (c : MicroCode) (ops : List Op) (q : ℕ) → ops ≡ c.ops → q < length ops → slice_get c.ops q ≡ Some (get_or ops q no_op)
+op_there c ops q is lt = ap (λ os. slice_get os q) (sym is) ∙ slice_get-get_or ops q no_op lt
+
+pub op_known : (c : MicroCode) (settings : Settings) → CanEmit c settings → (ops : List Op) (q : ℕ) → ops ≡ c.ops → q < length ops → IsOpOf c (get_or ops q no_op)
+op_known c settings can ops q is lt = op_at c settings can q (get_or ops q no_op) (op_there c ops q is lt)

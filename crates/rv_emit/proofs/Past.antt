@@ -1,5 +1,5 @@
 -- The end past the last statement.
-use Rattle.std.proofs.Common.{◌≡◌, ℕ, ◌+◌, ◌-◌, ◌*◌, ◌^◌, ◌<◌, ◌≤◌, List, [], ◌∷◌, length, Some, false, refl, arith}
+use Rattle.std.proofs.Common.{ℕ, ◌*◌, ◌^◌, ◌≤◌, [], ◌∷◌, length, Some, false, refl, arith}
 use Rattle.sil_base.specs.declared.limits.TheConstants.{STATEMENT_INSTRUCTIONS}
 use Rattle.image_file.specs.Image.{Image}
 use Rattle.rv_emulate.specs.declared.end.CpuEnd.TheVariants.{Undefined}

@@ -1,9 +1,8 @@
 -- Where operations stand: their places rise, and stay near.
-use Rattle.std.proofs.Common.{◌≡◌, ℕ, suc, ◌+◌, ◌-◌, ◌*◌, ◌/◌, ◌%◌, ◌^◌, ◌<◌, ◌≤◌, List, length, take, Some, refl, sym, ap, ◌∙◌, arith}
+use Rattle.std.proofs.Common.{◌≡◌, ℕ, suc, ◌+◌, ◌-◌, ◌*◌, ◌%◌, ◌^◌, ◌<◌, ◌≤◌, length, Some, ap, arith}
 use Rattle.std.specs.Prelude.{slice_get, sum_by}
 use Rattle.layout_params.specs.Parameters.{Settings}
 use Rattle.layout_params.proofs.LegalLayouts.{legal}
-use Rattle.sil_base.specs.declared.places.TheConstants.{FIRST_WORD}
 use Rattle.sil_micro.specs.declared.op.Op.{Op}
 use Rattle.sil_micro.specs.Codes.{MicroCode}
 use Rattle.rv_emit.specs.Code.{first_op, length_of, op_place, last_place}

@@ -1,8 +1,8 @@
 -- The words of a code and the places of its statements fit an image.
-use Rattle.std.proofs.Common.{◌≡◌, ℕ, zero, suc, ◌+◌, ◌*◌, ◌/◌, ◌%◌, ◌^◌, ◌<◌, ◌≤◌, List, [], ◌∷◌, ◌++◌, length, length-append, map, Bool, true, Option, Some, None, refl, sym, ap, ◌∙◌, arith}
+use Rattle.std.proofs.Common.{◌≡◌, ℕ, zero, suc, ◌+◌, ◌*◌, ◌/◌, ◌%◌, ◌^◌, ◌<◌, ◌≤◌, List, [], ◌∷◌, ◌++◌, length, length-append, map, get_or, ◌⊎◌, inl, inr, Bool, true, Option, Some, None, refl, sym, ap, ◌∙◌, arith}
 use Rattle.std.proofs.lemmas.List.{length-map}
 use Rattle.std.proofs.lemmas.List.Sums.{sum_by-cons}
-use Rattle.std.proofs.lemmas.Option.{slice_get_within}
+use Rattle.std.proofs.lemmas.Option.{slice_get_cases, slice_get_within}
 use Rattle.std.specs.Prelude.{All, IsTrue, nat_le, nat_lt, ◌==◌, ◌&&◌, slice_get, sum_by}
 use Rattle.rv_isa.specs.declared.instr.Instr.{Instr}
 use Rattle.rv_isa.specs.InstrWords.{word_of}
@@ -19,7 +19,7 @@ use Rattle.rv_emit.specs.Emits.{CanEmit, FitsImage, statement_places, words_of}
 use Rattle.rv_emit.specs.Planned.{IsWord}
 use Rattle.rv_emit.proofs.CodeWords.{each_word}
 use Rattle.rv_emit.proofs.OpParts.{ops_long}
-use Rattle.rv_emit.proofs.Placed.{place_even, place_first, place_more, place_rises}
+use Rattle.rv_emit.proofs.Placed.{place_even, place_first, place_more, place_next, place_rises}
 use Rattle.rv_emit.proofs.Sums.{take_all}
 use Rattle.rv_emit.proofs.Weights.{few_within, sum_within}
 use Rattle.rv_emit.proofs.WholeParts.{front_long_3, front_3}
@@ -57,6 +57,16 @@ module _ (settings : Settings) (c : MicroCode) where
   words_few can =
       let d = (legal settings.sizes can.legal.layout).most in
       omega (arith, words_long, sum_few c.ops)
+
+  pub narrow : (q : ℕ) → q < length c.ops → op_place settings c (q + 1) ≤ op_place settings c q + 48
+  narrow q lt = by_case (slice_get_cases c.ops q).1
+    where
+      by_case : ((op : Op) × (q < length c.ops) × (slice_get c.ops q ≡ Some op) × (get_or c.ops q op ≡ op)) ⊎ ((length c.ops ≤ q) × (slice_get c.ops q ≡ None)) → op_place settings c (q + 1) ≤ op_place settings c q + 48
+      by_case (inl (op, within, at, is)) =
+          let s : suc q ≡ q + 1 = omega arith in
+          let next = ap (op_place settings c) (sym s) ∙ place_next settings c q op at in
+          omega (arith, few_within settings c.static_cells op)
+      by_case (inr h) = absurd (omega arith)
 
   -- ---- how their places rise
 

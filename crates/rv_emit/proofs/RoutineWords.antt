@@ -1,11 +1,11 @@
 -- The instructions before the operations, and those past them, have words.
-use Rattle.std.proofs.Common.{◌≡◌, ℕ, zero, suc, ◌+◌, ◌-◌, ◌*◌, ◌/◌, ◌%◌, ◌^◌, ◌<◌, ◌≤◌, List, [], ◌∷◌, ◌++◌, Option, arith, rules}
+use Rattle.std.proofs.Common.{ℕ, zero, suc, ◌+◌, ◌-◌, ◌*◌, ◌/◌, ◌^◌, ◌<◌, ◌≤◌, [], ◌∷◌, ◌++◌, Option, arith, rules}
 use Rattle.std.specs.Prelude.{pos}
 use Rattle.rv_isa.specs.declared.instr.IOp.TheVariants.{Jalr}
 use Rattle.rv_isa.specs.declared.instr.Instr.TheVariants.{I}
 use Rattle.sil_base.specs.declared.places.TheConstants.{FIRST_WORD}
 use Rattle.rv_straight.specs.Code.{AreInstrs}
-use Rattle.rv_straight.specs.Constants.{upper_of, lower_of}
+use Rattle.rv_straight.specs.Constants.{upper_of}
 use Rattle.rv_straight.specs.Jumps.{distance, leap_code}
 use Rattle.rv_straight.proofs.AreInstrs.{lower_fits, far_fits, leaps}
 use Rattle.rv_routines.specs.RoutineCodes.{check_code, fit_code, open_code, char_code, word_code, below_code, zeros_code, make_front, make_code, kind_front, kind_code, state_code}

@@ -1,5 +1,5 @@
 -- The shared routines stand in an image of a code.
-use Rattle.std.proofs.Common.{◌≡◌, ℕ, zero, suc, ◌+◌, ◌-◌, ◌*◌, ◌/◌, ◌%◌, ◌^◌, ◌<◌, ◌≤◌, ◌⊎◌, inl, inr, List, length, Option, Some, None, min, refl, sym, ap, subst, ◌∙◌, arith}
+use Rattle.std.proofs.Common.{◌≡◌, ℕ, ◌+◌, ◌*◌, ◌/◌, ◌<◌, ◌≤◌, inl, inr, length, Option, Some, subst, arith}
 use Rattle.layout_params.specs.Areas.{all_cells}
 use Rattle.layout_params.specs.declared.cell.Field.TheVariants.{F, V}
 use Rattle.layout_params.specs.Parameters.{Settings}

@@ -1,5 +1,5 @@
 -- The start of the code: the empty stack's top goes into the first two words of scratch, and the run to statement 0.
-use Rattle.std.proofs.Common.{◌≡◌, ℕ, zero, suc, ◌+◌, ◌-◌, ◌*◌, ◌%◌, ◌^◌, ◌<◌, ◌≤◌, List, [], ◌∷◌, length, get_or, replicate, None, true, false, refl, ap, ◌∙◌, arith}
+use Rattle.std.proofs.Common.{◌≡◌, ℕ, zero, suc, ◌+◌, ◌-◌, ◌*◌, ◌%◌, ◌^◌, ◌<◌, ◌≤◌, List, [], ◌∷◌, length, get_or, replicate, None, false, refl, arith}
 use Rattle.std.proofs.lemmas.List.{length-replicate}
 use Rattle.sil_base.specs.Bytes.{low_bytes, with_piece}
 use Rattle.sil_base.proofs.Numbers.{length-with_piece, length-low_bytes}
@@ -11,7 +11,7 @@ use Rattle.rv_emulate.specs.EmulatorMemory.{Memory}
 use Rattle.rv_emulate.specs.EmulatorStates.{State, On, start, first_memory, first_registers, register}
 use Rattle.rv_emulate.specs.InstrValues.{extended}
 use Rattle.rv_straight.specs.InstalledWays.{Comes}
-use Rattle.rv_straight.specs.Registers.{IsFile, Writes, Knows, written}
+use Rattle.rv_straight.specs.Registers.{IsFile, Writes, Knows}
 use Rattle.rv_straight.specs.InstrEffects.{Value, Leaves}
 use Rattle.rv_straight.specs.Straight.{at, ◌▸◌}
 use Rattle.rv_straight.specs.Code.{IsNext}

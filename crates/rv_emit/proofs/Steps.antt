@@ -1,21 +1,27 @@
 -- Operations, and jumps of tables, appended one by one.
-use Rattle.std.proofs.Common.{◌≡◌, ℕ, zero, suc, ◌+◌, ◌-◌, ◌*◌, ◌<◌, ◌≤◌, List, [], ◌∷◌, ◌++◌, length, drop, get_or, map, take, Option, Some, None, refl, sym, ap, ◌∙◌, arith, append_assoc}
-use Rattle.std.proofs.lemmas.List.{append-nil, drop_all, drop_more, map_more}
+use Rattle.std.proofs.Common.{◌≡◌, ℕ, zero, suc, ◌+◌, ◌-◌, ◌*◌, ◌<◌, ◌≤◌, List, [], ◌∷◌, ◌++◌, length, drop, get_or, map, take, Option, Some, None, refl, sym, ap, subst, ◌∙◌, arith, append_assoc}
+use Rattle.std.proofs.lemmas.List.{append-nil, drop_all, drop_more, map_more, take_all}
+use Rattle.std.proofs.lemmas.List.Elements.{All-more}
 use Rattle.std.proofs.lemmas.Option.{slice_get-get_or}
-use Rattle.std.specs.Prelude.{slice_get}
+use Rattle.std.specs.Prelude.{All, slice_get}
 use Rattle.rv_isa.specs.declared.instr.Instr.{Instr}
 use Rattle.layout_params.specs.Parameters.{Settings}
+use Rattle.layout_params.specs.Sizes.{Sizes}
 use Rattle.sil_micro.specs.declared.op.Op.{Op}
 use Rattle.sil_micro.specs.Codes.{MicroCode, place_of, told}
 use Rattle.rv_straight.specs.Jumps.{leap, leap_code}
-use Rattle.rv_operations.specs.OpCodes.{instructions}
+use Rattle.rv_operations.specs.declared.places.Links.{Links}
+use Rattle.rv_operations.specs.declared.places.Routines.{Routines}
+use Rattle.rv_operations.specs.OpCodes.{instructions, op_length}
+use Rattle.rv_operations.specs.Links.{links_of}
 use Rattle.rv_operations.specs.Switch.{led}
-use Rattle.rv_emit.specs.Code.{first_op, length_of, op_place, ops_code, place_from, site_of, table_code}
-use Rattle.rv_emit.specs.Planned.{leads, operations_of, routine_of, table_of}
+use Rattle.rv_emit.specs.Code.{first_op, length_of, number_of, op_place, ops_code, place_from, places_of, routines_at, site_of, table_code}
+use Rattle.rv_emit.specs.Planned.{IsWord, leads, operations_of, routine_of, table_of}
 use Rattle.rv_emit.specs.declared.plan.Switch.{Switch}
 use Rattle.rv_emit.proofs.Placed.{place_next}
 use Rattle.rv_emit.proofs.OpPlaces.{first_place}
-use Rattle.rv_emit.proofs.Emitted.{place_by_entry}
+use Rattle.rv_emit.proofs.Images.{place_by_entry}
+use Rattle.rv_emit.proofs.Ops.{no_op, op_there}
 
 module _ (settings : Settings) (c : MicroCode) where
   -- the instructions from an operation on
@@ -43,6 +49,35 @@ module _ (settings : Settings) (c : MicroCode) where
       ∙ append_assoc old (instructions settings.sizes (site_of settings c (op_place settings c q) op) op) (ops_from (q + 1))
       ∙ ap (λ k. old ++ k) (sym (next_from q op lt is))
       ∙ so_far
+
+  -- an operation appended where it stands
+  pub new_op : (old code : List Instr) (sizes : Sizes) (routines : Routines) (links : Links) (place q : ℕ) (op : Op) → sizes ≡ settings.sizes → routines ≡ routines_at settings.sizes.descr (length c.entries) → links ≡ links_of settings c.static_cells c.formats (places_of settings c) op → place ≡ op_place settings c q → code ≡ old ++ instructions sizes (record { routines = routines; links = links; place = place }) op → code ≡ old ++ instructions settings.sizes (site_of settings c (op_place settings c q) op) op
+  new_op old code sizes routines links place q op s r l p h =
+      h
+      ∙ ap (λ x. old ++ instructions x (record { routines = routines; links = links; place = place }) op) s
+      ∙ ap (λ x. old ++ instructions settings.sizes (record { routines = x; links = links; place = place }) op) r
+      ∙ ap (λ x. old ++ instructions settings.sizes (record { routines = routines_at settings.sizes.descr (length c.entries); links = x; place = place }) op) l
+      ∙ ap (λ x. old ++ instructions settings.sizes (site_of settings c x op) op) p
+
+  -- the place after an operation that was measured
+  pub next_place : (ops : List Op) (q statics number n place : ℕ) → ops ≡ c.ops → q < length ops → statics ≡ c.static_cells → number ≡ number_of settings statics (get_or ops q no_op) → n ≡ op_length number (get_or ops q no_op) → place ≡ op_place settings c q → place + 4 * n ≡ op_place settings c (q + 1)
+  next_place ops q statics number n place is lt st num len here =
+      let s : suc q ≡ q + 1 = omega arith in
+      let at = place_next settings c q (get_or ops q no_op) (op_there c ops q is lt) in
+      let long : n ≡ length_of settings c.static_cells (get_or ops q no_op) = len ∙ ap (λ m. op_length m (get_or ops q no_op)) (num ∙ ap (λ m. number_of settings m (get_or ops q no_op)) st) in
+      let sum : place + 4 * n ≡ op_place settings c (suc q) = omega arith in
+      sum ∙ ap (op_place settings c) s
+
+  -- one word more
+  pub word_more : (ops : List Op) (q statics : ℕ) → ops ≡ c.ops → q < length ops → statics ≡ c.static_cells → IsWord settings statics (get_or ops q no_op) → All (IsWord settings c.static_cells) (take q c.ops) → All (IsWord settings c.static_cells) (take (q + 1) c.ops)
+  word_more ops q statics is lt st word so_far =
+      let within : q < length c.ops = omega (arith, ap length is) in
+      let same : get_or ops q no_op ≡ get_or c.ops q no_op = ap (λ os. get_or os q no_op) is in
+      All-more (IsWord settings c.static_cells) c.ops q no_op within so_far (subst (IsWord settings c.static_cells) same (subst (λ n. IsWord settings n (get_or ops q no_op)) st word))
+
+  -- all of them
+  pub all_words : (q : ℕ) → length c.ops ≤ q → All (IsWord settings c.static_cells) (take q c.ops) → All (IsWord settings c.static_cells) c.ops
+  all_words q h so_far = subst (All (IsWord settings c.static_cells)) (take_all q c.ops h) so_far
 
   -- ---- tables
 

@@ -1,5 +1,5 @@
 -- How long operations are, against their weights.
-use Rattle.std.proofs.Common.{◌≡◌, ℕ, ◌+◌, ◌*◌, ◌<◌, ◌≤◌, Bool, true, false, cond, List, [], ◌∷◌, arith}
+use Rattle.std.proofs.Common.{ℕ, ◌<◌, ◌≤◌, Bool, true, false, cond, List, [], ◌∷◌, arith}
 use Rattle.std.specs.Prelude.{sum_by}
 use Rattle.std.proofs.lemmas.List.Sums.{sum_by-cons}
 use Rattle.layout_params.specs.declared.cell.Field.TheVariants as field
@@ -13,7 +13,7 @@ use Rattle.sil_micro.specs.declared.op.Values.{Values}
 use Rattle.sil_micro.specs.declared.op.Values.TheVariants as values
 use Rattle.sil_micro.specs.Operations.{weight}
 use Rattle.sil_micro.specs.Pieces.{weights}
-use Rattle.rv_straight.specs.Constants.{is_short, is_word, constant_length}
+use Rattle.rv_straight.specs.Constants.{is_short, is_word}
 use Rattle.rv_operations.specs.OpCodes.{op_length, text_length, values_length}
 use Rattle.rv_emit.specs.Code.{length_of, number_of}
 

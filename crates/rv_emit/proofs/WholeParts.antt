@@ -1,5 +1,5 @@
 -- The parts of a whole code, each at its place, counted in instructions.
-use Rattle.std.proofs.Common.{◌≡◌, ℕ, zero, suc, ◌+◌, ◌*◌, ◌/◌, List, [], ◌∷◌, ◌++◌, length, length-append, Option, Some, refl, arith}
+use Rattle.std.proofs.Common.{◌≡◌, ℕ, ◌+◌, ◌*◌, ◌/◌, List, ◌++◌, length, length-append, Option, Some, arith}
 use Rattle.rv_isa.specs.declared.instr.Instr.{Instr}
 use Rattle.layout_params.specs.Areas.{all_cells}
 use Rattle.layout_params.specs.declared.cell.Field.TheVariants.{F, V}
@@ -10,7 +10,7 @@ use Rattle.rv_routines.specs.FieldCodes.{bits_of}
 use Rattle.rv_routines.specs.RoutineCodes.{check_routine, fit_routine, open_routine, char_routine, word_routine, below_routine, make_routine, kind_routine, state_routine}
 use Rattle.rv_operations.specs.declared.places.Routines.{Routines}
 use Rattle.rv_operations.specs.Switch.{switch_code}
-use Rattle.rv_emit.specs.Code.{start_code, routines_at, first_op, table_code, switch_part, place_from, places_of, ops_code, past_code, stack_top, whole_code}
+use Rattle.rv_emit.specs.Code.{start_code, routines_at, first_op, table_code, place_from, places_of, ops_code, past_code, stack_top, whole_code}
 use Rattle.rv_emit.proofs.Parted.{IsPart, whole, first_part, next_part}
 use Rattle.rv_emit.proofs.Lengths.{start_long, check_long, fit_long, open_long, char_long, word_long, below_long, state_long, make_long, kind_long, switch_long, table_long}
 
@@ -140,7 +140,7 @@ module _ (settings : Settings) (c : MicroCode) where
   abbrev front_2 : List Instr
   front_2 = front_1 ++ (switch_1 ++ table_1)
 
-  abbrev front_3 : List Instr
+  abbrev pub front_3 : List Instr
   front_3 = front_2 ++ (switch_2 ++ table_2)
 
   abbrev ops : List Instr
@@ -152,7 +152,7 @@ module _ (settings : Settings) (c : MicroCode) where
   front_long_2 : length front_2 ≡ 201 + 2 * e + 2 * count
   front_long_2 = omega (arith, length-append front_1 (switch_1 ++ table_1), front_long_1, length-append switch_1 table_1, switch_long d count r.entry, table_long r.entry by_entry (r.entry + 64) 0 count)
 
-  front_long_3 : length front_3 ≡ 217 + 2 * e + 4 * count
+  pub front_long_3 : length front_3 ≡ 217 + 2 * e + 4 * count
   front_long_3 = omega (arith, length-append front_2 (switch_2 ++ table_2), front_long_2, length-append switch_2 table_2, switch_long d count r.return_part, table_long r.return_part by_return (r.return_part + 64) 0 count)
 
   abbrev pub code : List Instr

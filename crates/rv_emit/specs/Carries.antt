@@ -1,13 +1,12 @@
 -- What the words of a code do on the emulator, operation by operation.
-use Rattle.std.specs.Prelude.{◌≡◌, ◌≢◌, ℕ, zero, suc, ◌+◌, ◌^◌, ◌<◌, ◌≤◌, List, length, map, replicate, Option, Some, None, ◌⊎◌, Bool, true, false, not, slice_get, slice_index_or, IsTrue}
-use Rattle.std.specs.Option.{option_map}
+use Rattle.std.specs.Prelude.{◌≡◌, ℕ, suc, ◌^◌, ◌<◌, ◌≤◌, List, length, replicate, Some, None, false, not, slice_get, IsTrue}
 use Rattle.sil_base.specs.Bytes.{low_bytes, with_piece}
 use Rattle.sil_base.specs.declared.limits.TheConstants.{MAX_STEPS, STATEMENT_INSTRUCTIONS, SCRATCH_BYTES}
 use Rattle.sil_base.specs.declared.places.TheConstants.{FIRST_WORD}
 use Rattle.unit_io.specs.Tapes.{Tapes}
 use Rattle.layout_params.specs.Parameters.{Settings}
 use Rattle.sil_micro.specs.declared.op.Op.{Op}
-use Rattle.sil_micro.specs.Codes.{MicroCode, place_of, return_of, setting_of}
+use Rattle.sil_micro.specs.Codes.{MicroCode, place_of, setting_of}
 use Rattle.sil_micro.specs.Operations.{act, weight}
 use Rattle.sil_micro.specs.Pieces.{is_no_begin, is_quiet}
 use Rattle.sil_micro.specs.MicroStates.{Micro}
@@ -19,7 +18,6 @@ use Rattle.rv_straight.specs.Registers.{IsFile}
 use Rattle.rv_straight.specs.InstalledWays.{IsFree, Comes}
 use Rattle.rv_operations.specs.Does.{Does}
 use Rattle.rv_operations.specs.Ops.{IsKnown}
-use Rattle.rv_operations.specs.CodePlaces.{Places}
 use Rattle.rv_operations.specs.StandsFor.{StandsFor}
 use Rattle.rv_emit.specs.Code.{places_of, place_from, stack_top, last_place}
 use Rattle.rv_emit.specs.Ways.{place}

@@ -1,5 +1,5 @@
 -- The ways of the installed code, from statement to statement.
-use Rattle.std.specs.Prelude.{◌≡◌, ◌≢◌, ℕ, suc, ◌<◌, ◌≤◌, length, map, Option, Some, None, option_map, Bool, true, false, slice_get, slice_index_or}
+use Rattle.std.specs.Prelude.{◌≡◌, ◌≢◌, ℕ, ◌<◌, ◌≤◌, length, map, Option, Some, None, option_map, Bool, false, slice_get, slice_index_or}
 use Rattle.sil_base.specs.declared.limits.TheConstants.{MAX_STEPS, STATEMENT_INSTRUCTIONS}
 use Rattle.unit_io.specs.Tapes.{Tapes}
 use Rattle.layout_params.specs.Parameters.{Settings, Parameters}
@@ -15,7 +15,7 @@ use Rattle.sil_model.specs.Costs.{cost}
 use Rattle.sil_model.specs.Valid.{IsValid}
 use Rattle.sil_base.specs.declared.places.TheConstants.{FIRST_WORD}
 use Rattle.image_file.specs.Image.{Image}
-use Rattle.rv_emulate.specs.EmulatorStates.{State, Outcome, On, Ended, start}
+use Rattle.rv_emulate.specs.EmulatorStates.{State, On, Ended, start}
 use Rattle.rv_emulate.specs.EmulatorRuns.{entry_at}
 use Rattle.rv_straight.specs.InstalledWays.{Comes}
 use Rattle.rv_operations.specs.Does.{as_end}

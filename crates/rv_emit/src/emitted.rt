@@ -1,6 +1,7 @@
 // The words of whole codes.
-ghost use Rattle.std.specs.Prelude.{◌≡◌, ◌+◌, ◌*◌, ◌≤◌, length, IfOk};
+ghost use Rattle.std.specs.Prelude.{◌≡◌, ℕ, ◌+◌, ◌*◌, ◌<◌, ◌≤◌, length, IfOk};
 ghost use Rattle.std.specs.List.{flat_map};
+ghost use Rattle.rv_emit.specs.Code.{op_place};
 ghost use Rattle.rv_emit.specs.Emits.{CanEmit, Carries, FitsImage, op_places, statement_places, words_of};
 ghost use Rattle.rv_emit.specs.Planned.{IsPlanned};
 
@@ -82,6 +83,7 @@ pub fn emit<L: Layout>(
     ensures ops { IfOk result (λ e. e.ops ≡ op_places params.now.settings code.now) }
     ensures constants { IfOk result (λ e. e.constants ≡ flat_map (λ text. text) code.now.formats) }
     ensures length { IfOk result (λ e. length e.words ≤ 12 * length code.now.ops + 4 * length code.now.entries + 2000) }
+    ensures narrow { (q : ℕ) → q < length code.now.ops → op_place params.now.settings code.now (q + 1) ≤ op_place params.now.settings code.now q + 48 }
     ensures image { IfOk result (λ e. FitsImage e.words e.places) }
     ensures carries { IfOk result (λ e. Carries params.now.settings code.now e.words e.places) }
 {

@@ -74,7 +74,7 @@ set_char_is m x c = by (byte_place m (cast_signed w64 x))
 abbrev pub word_found : Memory → ℕ → Option (ℕ × ℕ × List ℕ)
 word_found m x = cond (x % 8 == 0) (option_and_then with_chars (cell_around m x)) None
 
-nowhere : (m : Memory) (n : ℕ) → byte_place m (negsuc n) ≡ None
+pub nowhere : (m : Memory) (n : ℕ) → byte_place m (negsuc n) ≡ None
 unfolding byte_place
 nowhere m n = refl
 

@@ -21,3 +21,10 @@ pub mod Switching
 pub mod EntryOps
 pub mod FixedFits
 pub mod AllOps
+pub mod Parts
+pub mod TableBytes
+pub mod TableStores
+pub mod TableOps
+pub mod UnitTests
+pub mod UnitOps
+pub mod UnitCases

@@ -1,13 +1,12 @@
 -- All operations: their instructions in a code, what these rest on, and that they do what the operations do.
-use Rattle.std.specs.Prelude.{◌≡◌, ℕ, ◌+◌, ◌-◌, ◌*◌, ◌%◌, ◌^◌, ◌<◌, ◌≤◌, List, length, Bool, true, false, not, IsTrue, FitsSigned}
+use Rattle.std.specs.Prelude.{◌≡◌, ℕ, ◌+◌, ◌-◌, ◌*◌, ◌%◌, ◌^◌, ◌<◌, ◌≤◌, List, length, not, IsTrue, FitsSigned}
 use Rattle.std.specs.Int.{w64}
 use Rattle.std.specs.List.{flat_map}
 use Rattle.sil_base.specs.declared.limits.TheConstants.{MAX_CONSTANT_BYTES, MAX_STATEMENTS, MAX_STEPS}
 use Rattle.layout_params.specs.Parameters.{Settings}
-use Rattle.sil_micro.specs.declared.op.Area.TheVariants as areas
 use Rattle.sil_micro.specs.declared.op.Fixed.TheVariants.{Number}
 use Rattle.sil_micro.specs.declared.op.Op.{Op}
-use Rattle.sil_micro.specs.declared.op.Op.TheVariants.{Const, Jump, JumpIf, LoadWord, StoreWord, UnitCall, Begin}
+use Rattle.sil_micro.specs.declared.op.Op.TheVariants.{Const, Jump, JumpIf, Begin}
 use Rattle.sil_micro.specs.Forms.{is_op}
 use Rattle.sil_micro.specs.Operations.{act, weight}
 use Rattle.sil_micro.specs.Pieces.{is_no_begin, is_quiet}
@@ -67,20 +66,13 @@ pub record Supports (image : Image) (last : ℕ) (g : Setting) (places : Places)
   pub short : length image.constants ≤ MAX_CONSTANT_BYTES
   pub steps : g.bound ≤ MAX_STEPS
 
--- so far not for words of tables, and calls on units
-abbrev pub is_shown : Op → Bool
-is_shown (LoadWord areas.Tables to at) = false
-is_shown (StoreWord areas.Tables at from) = false
-is_shown (UnitCall call unit to text values) = false
-is_shown op = true
-
 -- ---- the laws
 
 -- the instructions of an operation do what it does, within its weight; only call 3 writes
 abbrev pub LawOfOps : Type 0
 LawOfOps =
     (image : Image) (last : ℕ) (g : Setting) (places : Places) (op : Op) (u : Micro) (s : State)
-    → IsTrue (is_shown op) → Supports image last g places → IsTrue (is_op op) → NamesNear g places op
+    → Supports image last g places → IsTrue (is_op op) → NamesNear g places op
     → BeginsAnew image last g (code_of g places s.pc op) u s → IsKnown g op u
     → Does image last g places (not (is_quiet op)) (weight op) (s.pc + 4 * length_of g.settings g.static_cells op) s (act g op u)
 

@@ -1,8 +1,8 @@
 // The laws of operations.
-ghost use Rattle.rv_operations.specs.WordLaws.{LawOfLoadBytes, LawOfLoadChar, LawOfLoadKind, LawOfLoadScratch, LawOfLoadState, LawOfStoreBytes, LawOfStoreChar, LawOfStoreKind, LawOfStoreScratch, LawOfStoreState};
+ghost use Rattle.rv_operations.specs.WordLaws.{LawOfLoadBytes, LawOfLoadChar, LawOfLoadKind, LawOfLoadScratch, LawOfLoadState, LawOfStoreBytes, LawOfStoreChar, LawOfStoreKind, LawOfStoreScratch, LawOfStoreState, LawOfLoadTables, LawOfStoreTables};
 ghost use Rattle.rv_operations.specs.Switch.{LawOfJumpEntry, LawOfJumpReturn, LawOfSwitches};
 ghost use Rattle.rv_operations.specs.Ops.{LawOfOpLengths, LawOfOps};
-ghost use Rattle.rv_operations.specs.Laws.{LawOfArith, LawOfBegin, LawOfConst, LawOfCopy, LawOfEnd, LawOfJump, LawOfJumpIf, LawOfLengths, LawOfLoadField, LawOfOpWords, LawOfStoreCell, LawOfStoreField};
+ghost use Rattle.rv_operations.specs.Laws.{LawOfArith, LawOfBegin, LawOfConst, LawOfCopy, LawOfEnd, LawOfJump, LawOfJumpIf, LawOfLengths, LawOfLoadField, LawOfOpWords, LawOfStoreCell, LawOfStoreField, LawOfUnitCall};
 
 /// The words of constants, copies and sums do what the operations do.
 pub fn law_of_registers()
@@ -58,6 +58,17 @@ pub fn law_of_scratch()
 pub fn law_of_state()
     ensures load { LawOfLoadState }
     ensures store { LawOfStoreState }
+{}
+
+/// So do those of words of tables.
+pub fn law_of_tables()
+    ensures load { LawOfLoadTables }
+    ensures store { LawOfStoreTables }
+{}
+
+/// The words of calls on units do what the operations do.
+pub fn law_of_units()
+    ensures { LawOfUnitCall }
 {}
 
 /// An operation has as many instructions as its length says.

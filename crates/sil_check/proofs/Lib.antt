@@ -1,4 +1,3 @@
-pub mod StandardLemmas
 pub mod MadeStatements
 pub mod CardLemmas
 pub mod VerdictLemmas

@@ -1,5 +1,5 @@
 -- Programs of sources that were checked are well formed.
-use Rattle.std.proofs.Common.{◌≡◌, ℕ, ◌+◌, ◌-◌, ◌*◌, ◌/◌, ◌%◌, ◌^◌, ◌<◌, ◌≤◌, Bool, true, false, cond, ◌&&◌, ◌==◌, List, [], ◌∷◌, length, Option, Some, None, ◌⊎◌, inl, inr, subst, pos, negsuc, refl, sym, ap, ◌∙◌, arith}
+use Rattle.std.proofs.Common.{◌≡◌, ℕ, zero, suc, ◌+◌, ◌-◌, ◌*◌, ◌/◌, ◌%◌, ◌^◌, ◌<◌, ◌≤◌, Bool, true, false, cond, ◌&&◌, ◌==◌, List, [], ◌∷◌, length, Option, Some, None, ◌⊎◌, inl, inr, subst, pos, negsuc, refl, sym, ap, ◌∙◌, arith}
 use Rattle.std.specs.Prelude.{All, IfSome, codes, option_and_then, option_map, nat_le, nat_lt, ◌||◌, slice_get, ℤ, sum_by}
 use Rattle.std.specs.Int.{div_ceil}
 use Rattle.std.specs.List.{list_all}
@@ -7,8 +7,9 @@ use Rattle.std.proofs.lemmas.Bool.Decides.{nat_tests}
 use Rattle.std.proofs.lemmas.Option.{slice_get_within}
 use Rattle.std.proofs.lemmas.List.Elements.{All-nil, All-cons, All-head, All-tail, All-weaker}
 use Rattle.layout_params.specs.declared.cell.Cell.{Cell}
-use Rattle.layout_params.specs.Sizes.{packed_16, value_limit}
-use Rattle.layout_params.specs.Parameters.{Parameters, Settings}
+use Rattle.layout_params.specs.Sizes.{value_limit}
+use Rattle.layout_params.specs.Parameters.{AreLegalSettings, Parameters, Settings}
+use Rattle.layout_params.proofs.LegalLayouts.{legal}
 use Rattle.sil_macros.specs.declared.names.Macro.{Macro}
 use Rattle.sil_macros.specs.declared.names.Macro.TheVariants as macros
 use Rattle.sil_macros.specs.MacroRows.{row}
@@ -30,46 +31,19 @@ use Rattle.sil_model.specs.declared.program.Statement.{Statement}
 use Rattle.layout_params.specs.Areas.{hidden_cells, all_cells}
 use Rattle.sil_base.specs.declared.places.TheConstants.{FIRST_ENTRY}
 use Rattle.sil_model.specs.declared.program.Specials.{Specials}
-use Rattle.sil_model.specs.Built.{AreBuilt, AreStatic, IsBuilt, IsStatic, is_built}
+use Rattle.sil_check.specs.Built.{AreBuilt, is_built}
 use Rattle.sil_model.specs.Fits.{Bounds, FitsRow, IsStatement, bounds_of}
 use Rattle.sil_model.specs.Needs.{has_needed}
 use Rattle.sil_format.specs.FormatGrammar.{IsFormat}
 use Rattle.sil_model.specs.WellFormed.{AreSpecials, IsWellFormed}
 use Rattle.syntax_tables.specs.declared.saying.Said.{Said}
 use Rattle.sil_arguments.specs.MadeArguments.{Scope, scope_of, and_before, args_of}
-use Rattle.sil_check.specs.StaticPlaces.{is_descriptor, is_descriptor_at, is_static}
 use Rattle.sil_check.specs.Specials.{special_faults, special_rule, specials_in}
-use Rattle.sil_check.specs.Programs.{formats_of, statement_with, machine_statement, machine_statements, program_with, is_static_program, is_static_statement}
+use Rattle.sil_check.specs.Programs.{formats_of, statement_with, machine_statement, machine_statements, program_with}
 use Rattle.sil_check.specs.Verdicts.{is_assembled, is_built_macro, is_built_statement}
 use Rattle.sil_check.specs.HeldPrograms.{HasFitPlaces, HaveShortLists, IsProgramOf}
 use Rattle.sil_arguments.proofs.ArgLemmas.{IsFirst, IsScope, args_fit, both, first_is}
 use Rattle.sil_check.proofs.ScopeLemmas.{scope_is}
-
--- ---- places
-
-within : (cells : List Cell) (i : ℕ) (o : Option Cell) → slice_get cells i ≡ o → is_descriptor o ≡ true → i < length cells
-within cells i None e h = let no : ⊥ = cc in absurd no
-within cells i (Some cell) e h = slice_get_within cells i cell e
-
-static_place : (cells : List Cell) (at : ℤ) → is_descriptor_at 16 cells at ≡ true → IsStatic 16 (length cells) (arg.Place at)
-static_place cells (negsuc n) h = let no : ⊥ = cc in absurd no
-static_place cells (pos n) h =
-    let (front, last) = both (nat_le FIRST_CELL n && ((n - FIRST_CELL) % 16 == 0)) (is_descriptor (slice_get cells ((n - FIRST_CELL) / 16))) h in
-    let (above, whole) = both (nat_le FIRST_CELL n) ((n - FIRST_CELL) % 16 == 0) front in
-    let first : FIRST_CELL ≤ n = grind (arith, nat_tests) in
-    let none : (n - FIRST_CELL) % 16 ≡ 0 = grind (arith, nat_tests) in
-    let is : n ≡ FIRST_CELL + (n - FIRST_CELL) / 16 * 16 = omega arith in
-    ((n - FIRST_CELL) / 16, within cells ((n - FIRST_CELL) / 16) (slice_get cells ((n - FIRST_CELL) / 16)) refl last, ap pos is)
-
-static_arg : (cells : List Cell) (a : Arg) → is_static 16 cells a ≡ true → IsStatic 16 (length cells) a
-static_arg cells (arg.Place at) h = static_place cells at h
-static_arg cells _ h = tt
-
-static_args : (cells : List Cell) (args : List Arg) → list_all (is_static 16 cells) args ≡ true → AreStatic 16 (length cells) args
-static_args cells [] h = tt
-static_args cells (a ∷ args) h =
-    let (this, others) = both (is_static 16 cells a) (list_all (is_static 16 cells) args) h in
-    (static_arg cells a this, static_args cells args others)
 
 -- ---- statements
 
@@ -217,14 +191,6 @@ no_formats (s ∷ source) h =
     let (this, others) = both (is_built_statement s) (list_all is_built_statement source) h in
     unlisted (is_format (part_of s.name)) (first_text s.operands) (formats_of source) (no_format s.name this) ∙ no_formats source others
 
--- each statement is of a macro that is installed, over static cells
-statements_built : (b : Bounds) (specials : Specials) (cells : List Cell) (statements : List Statement) → All (IsFit b specials) statements → list_all (is_static_statement 16 cells) statements ≡ true → All (IsBuilt 16 (length cells)) statements
-statements_built b specials cells [] fit h = All-nil (IsBuilt 16 (length cells))
-statements_built b specials cells (s ∷ statements) fit h =
-    let (this, others) = both (is_static_statement 16 cells s) (list_all (is_static_statement 16 cells) statements) h in
-    let one : IsBuilt 16 (length cells) s = record { name = (All-head (IsFit b specials) s statements fit).built; places = static_args cells s.args this } in
-    All-cons (IsBuilt 16 (length cells)) s statements one (statements_built b specials cells statements (All-tail (IsFit b specials) s statements fit) others)
-
 -- ---- special symbols
 
 statement_within : (size count : ℕ) (b : Bounds) (value : Option ℤ) → count ≤ b.statements → IsStatement b (option_and_then (statement_at size count) value)
@@ -256,14 +222,30 @@ found p source lines cells (Some made) program h = (made, refl, cc)
 -- what each program of a source that was checked meets
 pub record IsChecked (settings : Settings) (program : Program) : Type 0 where
   pub well_formed : IsWellFormed program settings
-  pub built : AreBuilt settings.sizes.descr program
+  pub built : AreBuilt program
 
--- the cells of all kinds in the standard layout
-few_cells : (p : Parameters) (source : List Stmt) (count : ℕ) → p.settings.sizes ≡ packed_16 → IsWithinLimits p source → count ≡ (extent p source).cells → all_cells p.settings count ≤ 2 ^ 20
-few_cells p source count same limits is =
-    let hidden : hidden_cells p.settings ≡ 2 = ap (λ s. (20 + s.descr - 1) / s.descr) same in
-    let also : div_ceil 20 p.settings.sizes.descr ≡ 2 = ap (λ s. div_ceil 20 s.descr) same in
-    omega (arith, hidden, also, limits.cells)
+-- the cells of the hidden buffer, by the size of a cell in words
+hidden_by : (words : ℕ) → 2 ≤ words → words ≤ 8 → (20 + 8 * words - 1) / (8 * words) ≡ div_ceil 20 (8 * words)
+hidden_by zero least most = absurd (omega arith)
+hidden_by (suc zero) least most = absurd (omega arith)
+hidden_by (suc (suc zero)) least most = refl
+hidden_by (suc (suc (suc zero))) least most = refl
+hidden_by (suc (suc (suc (suc zero)))) least most = refl
+hidden_by (suc (suc (suc (suc (suc zero))))) least most = refl
+hidden_by (suc (suc (suc (suc (suc (suc zero)))))) least most = refl
+hidden_by (suc (suc (suc (suc (suc (suc (suc zero))))))) least most = refl
+hidden_by (suc (suc (suc (suc (suc (suc (suc (suc zero)))))))) least most = refl
+hidden_by (suc (suc (suc (suc (suc (suc (suc (suc (suc words))))))))) least most = absurd (omega arith)
+
+hidden_is : (settings : Settings) → AreLegalSettings settings → hidden_cells settings ≡ div_ceil 20 settings.sizes.descr
+hidden_is settings good =
+    let l = legal settings.sizes good.layout in
+    let whole : 8 * (settings.sizes.descr / 8) ≡ settings.sizes.descr = omega (arith, l.multiple) in
+    subst (λ d. (20 + d - 1) / d ≡ div_ceil 20 d) whole (hidden_by (settings.sizes.descr / 8) (omega (arith, l.least)) (omega (arith, l.most)))
+
+-- the cells of all kinds
+few_cells : (p : Parameters) (source : List Stmt) (count : ℕ) → AreLegalSettings p.settings → IsWithinLimits p source → count ≡ (extent p source).cells → all_cells p.settings count ≤ 2 ^ 20
+few_cells p source count good limits is = omega (arith, hidden_is p.settings good, limits.cells)
 
 -- the special symbols of a program that was made
 specials_fit : (p : Parameters) (source : List Stmt) (program : Program) → program.specials ≡ specials_in p source → executable_count source ≤ (bounds_of program p.settings).statements → HasFitPlaces program.specials →
@@ -287,7 +269,6 @@ checked values_fit p source program h =
     let over = h.made in
     let scope = scope_of p source h.lines in
     let (made, made_is, is) = found p source h.lines program.cells (machine_statements scope source) program over.made in
-    let size : p.settings.sizes.descr ≡ 16 = ap (λ s. s.descr) over.standard in
     let b = bounds_of program p.settings in
     let statements : program.statements ≡ made = ap (λ q. q.statements) is in
     let texts : program.formats ≡ formats_of source = ap (λ q. q.formats) is in
@@ -299,8 +280,7 @@ checked values_fit p source program h =
     let sounds = subst (λ (x : Specials). All (IsSound x) source) (sym specials) (sound p source over.needs over.built h.lists) in
     let fit : All (IsFit b program.specials) program.statements = subst (All (IsFit b program.specials)) (sym statements) (statements_fit b program.specials scope are source made sounds made_is) in
     let executable = counted p.settings.sizes.descr (size_names p source) first_spot source in
-    let all = few_cells p source (length program.cells) over.standard h.limits h.count in
-    let static : is_static_program 16 program ≡ true = subst (λ n. is_static_program n program ≡ true) size over.static in
+    let all = few_cells p source (length program.cells) over.legal.settings h.limits h.count in
     record {
       well_formed = record {
         legal = over.legal.settings;
@@ -315,5 +295,5 @@ checked values_fit p source program h =
         format_bytes = omega (arith, ap (sum_by length) formats);
         specials = specials_fit p source program specials (omega (arith, count)) over.specials (All-weaker (IsFit b program.specials) (λ (s : Statement). has_needed program.specials s.name ≡ true) (λ s f. f.needed) program.statements fit);
       };
-      built = rw size (statements_built b program.specials program.cells program.statements fit static);
+      built = All-weaker (IsFit b program.specials) (λ (s : Statement). is_built s.name ≡ true) (λ s f. f.built) program.statements fit;
     }

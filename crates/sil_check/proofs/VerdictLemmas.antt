@@ -10,7 +10,7 @@ use Rattle.sil_arguments.specs.declared.stop.CheckStop.{CheckStop}
 use Rattle.sil_arguments.specs.declared.stop.CheckStop.TheVariants as stop
 use Rattle.syntax_tables.specs.declared.saying.Said.{Said}
 use Rattle.sil_arguments.specs.HeldScopes.{IsUnmade}
-use Rattle.sil_check.specs.Programs.{program_over, program_of, is_static_program}
+use Rattle.sil_check.specs.Programs.{program_over, program_of}
 use Rattle.sil_check.specs.Verdicts.{is_built_source, if_built, made, verdict_built, IsStopFor}
 
 built : (b : Bool) (next : Result Program CheckStop) → b ≡ true → if_built b next ≡ next
@@ -18,28 +18,22 @@ built b next h = rw h refl
 
 module _ (p : Parameters) (source : List Stmt) (lines : List Said) (cells : List Cell) (are_cells : cells ≡ static_cells_of p source) where
   -- what is left of the verdict: the program over the static cells
-  program_left : is_built_source p source ≡ true → verdict_built p source lines ≡ made p.settings.sizes.descr (program_over p source lines cells)
+  program_left : is_built_source source ≡ true → verdict_built p source lines ≡ made (program_over p source lines cells)
   unfolding program_of
   program_left h =
-      built (is_built_source p source) _ h
-      ∙ ap (λ cs. made p.settings.sizes.descr (program_over p source lines cs)) (sym are_cells)
+      built (is_built_source source) _ h
+      ∙ ap (λ cs. made (program_over p source lines cs)) (sym are_cells)
 
-  if_static : (b : Bool) (program : Program) (o : Option Program) (size : ℕ) → o ≡ Some program → is_static_program size program ≡ b → made size o ≡ if_built b (Ok program)
-  if_static b program o size some is = rw (some, is) refl
+  pub answered : (program : Program) → is_built_source source ≡ true → program_over p source lines cells ≡ Some program → verdict_built p source lines ≡ Ok program
+  answered program all_built some = program_left all_built ∙ ap made some
 
-  pub answered : (program : Program) → is_built_source p source ≡ true → program_over p source lines cells ≡ Some program → is_static_program p.settings.sizes.descr program ≡ true → verdict_built p source lines ≡ Ok program
-  answered program all_built some is = program_left all_built ∙ if_static true program (program_over p source lines cells) p.settings.sizes.descr some is
+  stopped_by : (answer : Result Program CheckStop) (o : Option Program) (e : CheckStop) → answer ≡ made o → IsUnmade o e → IsStopFor answer e
+  stopped_by answer o (stop.Faults faults) is h = absurd h
+  stopped_by answer o stop.NotBuilt is h = is ∙ ap made h
+  stopped_by answer o stop.Memory is h = tt
 
-  pub refused : (program : Program) → is_built_source p source ≡ true → program_over p source lines cells ≡ Some program → is_static_program p.settings.sizes.descr program ≡ false → verdict_built p source lines ≡ Err stop.NotBuilt
-  refused program all_built some is = program_left all_built ∙ if_static false program (program_over p source lines cells) p.settings.sizes.descr some is
-
-  stopped_by : (answer : Result Program CheckStop) (size : ℕ) (o : Option Program) (e : CheckStop) → answer ≡ made size o → IsUnmade o e → IsStopFor answer e
-  stopped_by answer size o (stop.Faults faults) is h = absurd h
-  stopped_by answer size o stop.NotBuilt is h = is ∙ ap (made size) h
-  stopped_by answer size o stop.Memory is h = tt
-
-  pub stopped : (e : CheckStop) → is_built_source p source ≡ true → IsUnmade (program_over p source lines cells) e → IsStopFor (verdict_built p source lines) e
-  stopped e all_built unmade = stopped_by (verdict_built p source lines) p.settings.sizes.descr (program_over p source lines cells) e (program_left all_built) unmade
+  pub stopped : (e : CheckStop) → is_built_source source ≡ true → IsUnmade (program_over p source lines cells) e → IsStopFor (verdict_built p source lines) e
+  stopped e all_built unmade = stopped_by (verdict_built p source lines) (program_over p source lines cells) e (program_left all_built) unmade
 
 pub answers_stop : (answer : Result Program CheckStop) (r : Result Program CheckStop) (e : CheckStop) → IsErrAnd r (λ x. x ≡ e) → IsStopFor answer e → MatchResult r (λ program. answer ≡ Ok program) (IsStopFor answer)
 answers_stop answer (Ok program) e h stops = absurd h

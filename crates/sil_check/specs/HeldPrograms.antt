@@ -1,9 +1,7 @@
 -- Programs that the code makes.
 use Rattle.std.specs.Prelude.{◌≡◌, ℕ, ◌≤◌, List, [], length, All, Some, true}
-use Rattle.std.specs.List.{list_all}
 use Rattle.layout_params.specs.declared.cell.Cell.{Cell}
 use Rattle.layout_params.specs.Parameters.{Parameters, AreLegal}
-use Rattle.layout_params.specs.Sizes.{packed_16}
 use Rattle.sil_operands.specs.Limits.{are_within_limits}
 use Rattle.sil_symbols.specs.declared.stmt.Stmt.{Stmt}
 use Rattle.sil_symbols.specs.Symbols.{extent, IsWithinLimits}
@@ -15,9 +13,9 @@ use Rattle.sil_model.specs.WellFormed.{FitsOption, IsTable}
 use Rattle.syntax_tables.specs.declared.saying.Said.{Said}
 use Rattle.syntax_tables.specs.TableFiles.{names_in}
 use Rattle.sil_base.specs.declared.limits.TheConstants.{MAX_TABLES}
-use Rattle.sil_check.specs.Programs.{program_over, is_static_program}
+use Rattle.sil_check.specs.Programs.{program_over}
 use Rattle.sil_check.specs.Specials.{special_faults}
-use Rattle.sil_check.specs.Verdicts.{is_built_statement}
+use Rattle.sil_check.specs.Verdicts.{is_built_source}
 
 -- each list that is an operand has at most 40 items
 abbrev pub HaveShortLists : List Stmt → Type 0
@@ -33,8 +31,7 @@ pub record HasFitPlaces (specials : Specials) : Type 0 where
 -- a program that was made of a source and of the lines of a tables file, over these cells
 pub record IsMadeOf (p : Parameters) (source : List Stmt) (lines : List Said) (cells : List Cell) (program : Program) : Type 0 where
   pub legal : AreLegal p
-  pub standard : p.settings.sizes ≡ packed_16
-  pub built : list_all is_built_statement source ≡ true
+  pub built : is_built_source source ≡ true
   pub needs : special_faults p source ≡ []
   pub cells_are : program.cells ≡ cells
   pub tables : All (IsTable (length program.tables)) program.tables
@@ -42,7 +39,6 @@ pub record IsMadeOf (p : Parameters) (source : List Stmt) (lines : List Said) (c
   pub table_count : length program.tables ≤ MAX_TABLES
   pub specials : HasFitPlaces program.specials
   pub made : program_over p source lines cells ≡ Some program
-  pub static : is_static_program p.settings.sizes.descr program ≡ true
 
 -- the program of a source and of a tables file that were checked
 pub record IsProgramOf (p : Parameters) (source : List Stmt) (program : Program) : Type 0 where

@@ -1,6 +1,5 @@
 pub mod Statements
-pub mod Standard
-pub mod StaticPlaces
+pub mod Built
 pub mod TableFaults
 pub mod Specials
 pub mod Programs

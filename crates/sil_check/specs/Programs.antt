@@ -1,6 +1,5 @@
 -- The program of statements.
-use Rattle.std.specs.Prelude.{ℕ, List, [], ◌∷◌, Option, Some, option_map, if◌then◌else◌, Bool}
-use Rattle.std.specs.List.{list_all}
+use Rattle.std.specs.Prelude.{ℕ, List, [], ◌∷◌, Option, Some, option_map, if◌then◌else◌}
 use Rattle.layout_params.specs.declared.cell.Cell.{Cell}
 use Rattle.layout_params.specs.Parameters.{Parameters}
 use Rattle.sil_macros.specs.MacroRows.{row}
@@ -15,7 +14,6 @@ use Rattle.sil_model.specs.declared.program.Arg.{Arg}
 use Rattle.sil_model.specs.declared.program.Program.{Program}
 use Rattle.sil_model.specs.declared.program.Statement.{Statement}
 use Rattle.sil_arguments.specs.MadeArguments.{Scope, scope_of, args_of, and_before}
-use Rattle.sil_check.specs.StaticPlaces.{is_static}
 use Rattle.sil_check.specs.Specials.{specials_in}
 
 abbrev pub statement_with : Stmt → List Arg → Statement
@@ -55,10 +53,3 @@ program_over p source lines cells =
 -- the program of a source and of the lines of a tables file
 unfoldable pub program_of : Parameters → List Stmt → List Said → Option Program
 program_of p source lines = program_over p source lines (static_cells_of p source)
-
--- each place that is an operand is the address of a static descriptor
-abbrev pub is_static_statement : ℕ → List Cell → Statement → Bool
-is_static_statement size cells statement = list_all (is_static size cells) statement.args
-
-abbrev pub is_static_program : ℕ → Program → Bool
-is_static_program size program = list_all (is_static_statement size program.cells) program.statements

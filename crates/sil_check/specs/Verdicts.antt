@@ -1,5 +1,5 @@
 -- What a check answers.
-use Rattle.std.specs.Prelude.{◌≡◌, ℕ, List, [], ◌∷◌, Option, Some, None, Bool, true, false, ◌&&◌, ◌||◌}
+use Rattle.std.specs.Prelude.{◌≡◌, ℕ, List, [], ◌∷◌, Option, Some, None, Bool, true, false, ◌||◌}
 use Rattle.std.specs.List.{list_all}
 use Rattle.std.specs.declared.result.Result.{Result}
 use Rattle.std.specs.declared.result.Result.TheVariants.{Ok, Err}
@@ -17,15 +17,14 @@ use Rattle.sil_base.specs.declared.fault_stop.FaultStop.{FaultStop}
 use Rattle.syntax_tables.specs.declared.saying.Said.{Said}
 use Rattle.syntax_tables.specs.TableFiles.{written_of}
 use Rattle.sil_model.specs.declared.program.Program.{Program}
-use Rattle.sil_model.specs.Built.{is_built}
+use Rattle.sil_check.specs.Built.{is_built}
 use Rattle.sil_arguments.specs.declared.stop.CheckStop.{CheckStop}
 use Rattle.sil_arguments.specs.declared.stop.CheckStop.TheVariants as stop
 use Rattle.sil_arguments.specs.CheckStops.{stop_below}
 use Rattle.sil_check.specs.Specials.{special_faults}
-use Rattle.sil_check.specs.Standard.{is_standard}
 use Rattle.sil_check.specs.Statements.{statements_of}
 use Rattle.sil_check.specs.TableFaults.{table_faults}
-use Rattle.sil_check.specs.Programs.{program_of, is_static_program}
+use Rattle.sil_check.specs.Programs.{program_of}
 
 -- the macros of the assembly but FORMAT
 abbrev pub is_assembled : Macro → Bool
@@ -39,9 +38,9 @@ is_built_macro name = is_assembled name || is_built name
 abbrev pub is_built_statement : Stmt → Bool
 is_built_statement s = is_built_macro s.name
 
--- a source of such macros alone, for the layout that is installed so far
-abbrev pub is_built_source : Parameters → List Stmt → Bool
-is_built_source p source = list_all is_built_statement source && is_standard p.settings.sizes
+-- a source of such macros alone
+abbrev pub is_built_source : List Stmt → Bool
+is_built_source source = list_all is_built_statement source
 
 -- the faults that there are; without one, the answer that follows
 abbrev pub unless_faults : List Fault → Result Program CheckStop → Result Program CheckStop
@@ -53,10 +52,10 @@ abbrev pub if_built : Bool → Result Program CheckStop → Result Program Check
 if_built true next = next
 if_built false next = Err stop.NotBuilt
 
--- the program, where it is made and its places are static descriptors
-abbrev pub made : ℕ → Option Program → Result Program CheckStop
-made size (Some program) = if_built (is_static_program size program) (Ok program)
-made size None = Err stop.NotBuilt
+-- the program, where it is made
+abbrev pub made : Option Program → Result Program CheckStop
+made (Some program) = Ok program
+made None = Err stop.NotBuilt
 
 -- what is answered for the lines of a tables file; a fault of their form hides all others of tables
 abbrev pub with_lines : Result (List Said) FaultStop → (List Said → Result Program CheckStop) → Result Program CheckStop
@@ -66,7 +65,7 @@ with_lines (Err stop) go = Err (stop_below stop)
 -- what is answered where there are no faults: the program, where it is built
 abbrev pub verdict_built : Parameters → List Stmt → List Said → Result Program CheckStop
 verdict_built p source lines =
-    if_built (is_built_source p source) (made p.settings.sizes.descr (program_of p source lines))
+    if_built (is_built_source source) (made (program_of p source lines))
 
 -- what is answered for a source and the lines of a tables file, where all before them is in order: faults of tables, then of special symbols
 abbrev pub verdict_with : Parameters → List Stmt → List Said → Result Program CheckStop

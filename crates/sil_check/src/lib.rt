@@ -1,14 +1,14 @@
 // From the cards of a source to its program.
 #![tactic(auto)]
 
-mod places;
+mod built;
 mod program;
 mod source;
 mod specials;
-mod standard;
 mod statements;
 mod tables;
 
 pub use sil_arguments::CheckStop;
 pub use sil_shapes::fits;
+pub use built::{BUILT, is_built};
 pub use source::check;

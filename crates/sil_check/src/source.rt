@@ -1,11 +1,9 @@
 // From the cards of a source to its program.
 ghost use Rattle.std.specs.Prelude.{◌≡◌, ◌≤◌, [], length, true, All, Ok, IfOk, IfErr, OnOk, MatchResult};
-ghost use Rattle.std.specs.List.{list_all};
 ghost use Rattle.layout_params.specs.Parameters.{AreLegal};
-ghost use Rattle.layout_params.specs.Sizes.{packed_16};
 ghost use Rattle.sil_base.specs.Faults.{IsStopFor as IsFaultStopFor};
 ghost use Rattle.sil_cards.specs.Cards.{AreCards};
-ghost use Rattle.sil_model.specs.Built.{AreBuilt};
+ghost use Rattle.sil_check.specs.Built.{AreBuilt};
 ghost use Rattle.sil_model.specs.WellFormed.{IsTable, IsWellFormed};
 ghost use Rattle.data_asm.specs.Cells.{static_cells_of};
 ghost use Rattle.sil_symbols.specs.SymbolRules.{EndsOnce};
@@ -17,10 +15,9 @@ ghost use Rattle.sil_arguments.specs.HeldScopes.{IsBound};
 ghost use Rattle.sil_check.specs.Specials.{special_faults};
 ghost use Rattle.sil_check.specs.Verdicts.{is_assembled, is_built_source, is_built_statement, unless_faults, verdict_built, verdict_with, verdict_of, verdict, IsStopFor};
 
-use crate::places::is_static_program;
+use crate::built::is_built;
 use crate::program::program_over;
 use crate::specials::{special_faults, specials_of};
-use crate::standard::is_standard;
 use crate::statements::statements_of;
 use crate::tables::tables_of;
 use data_asm::assemble;
@@ -29,7 +26,7 @@ use sil_arguments::{BoundSource, CheckStop};
 use sil_base::{Fault, FaultStop, Items, MAX_CARDS, MAX_FILE_BYTES, MAX_TABLES};
 use sil_cards::Card;
 use sil_macros::{Macro, is_assembly};
-use sil_model::{Program, Table, is_built};
+use sil_model::{Program, Table};
 use sil_operands::what_is_read_is_spelled;
 use sil_shapes::{Resolution, statement_faults};
 use sil_symbols::{Stmt, law_of_values, resolve};
@@ -52,23 +49,20 @@ fn is_built_statement(statement: &Stmt) -> bool
     is_assembled(statement.name) || is_built(statement.name)
 }
 
-fn are_built(statements: &[Stmt]) -> bool
-    ensures { result ≡ list_all is_built_statement statements.now }
+/// Whether all statements are of macros that are built.
+fn is_built_source(statements: &[Stmt]) -> bool
+    ensures { result ≡ is_built_source statements.now }
 {
     statements
         .iter()
         .all(|statement| is_built_statement(statement))
 }
 
-/// Whether all statements are of such macros, and the layout is the one that is installed so far.
-fn is_built_source(params: &Params, statements: &[Stmt]) -> bool
-    ensures tested { result ≡ is_built_source params.now statements.now }
-    ensures legal { AreLegal params.now }
-    ensures sizes { result ≡ true → params.now.settings.sizes ≡ packed_16 }
-    ensures built { result ≡ true → list_all is_built_statement statements.now ≡ true }
+/// Parameters are legal.
+fn law_of_params(params: &Params)
+    ensures { AreLegal params.now }
 {
-    let standard = is_standard(params);
-    are_built(statements) && standard
+    let _ = params.numbers();
 }
 
 /// Whether there are none of these faults.
@@ -102,15 +96,12 @@ fn make_program(
         in MatchResult result (λ p. answer ≡ Ok p) (IsStopFor answer) }
     ensures made { IfOk result (IsMadeOf bound.now.source.params.now bound.now.source.statements.now bound.now.tables.now cells.items) }
 {
-    let params = bound.source.params;
-    if !is_built_source(params, bound.source.statements) {
+    law_of_params(bound.source.params);
+    if !is_built_source(bound.source.statements) {
         return Err(CheckStop::NotBuilt);
     }
     let specials = specials_of(&bound.source);
     let program = program_over(alloc, bound, cells, tables, specials)?;
-    if !is_static_program(params, &program) {
-        return Err(CheckStop::NotBuilt);
-    }
     Ok(program)
 }
 
@@ -185,8 +176,7 @@ fn check_statements(
 /// names (N), then those of values (V), of statements (S), of data (A), of tables (T), which are the
 /// operands that name none and the lines of the tables file, and of special symbols (P). A source
 /// is not built so far where a statement is a FORMAT, or is neither of the assembly nor of a macro
-/// that is installed so far; in another layout than the standard one; and where a place that is an
-/// operand isn't that of a descriptor of a data statement.
+/// that is installed so far.
 pub fn check(
     alloc: Global,
     cards: Vec<Card>,
@@ -199,8 +189,7 @@ pub fn check(
     ensures verdict { let answer = verdict cards.items tables.now params.now
         in MatchResult result (λ p. answer ≡ Ok p) (IsStopFor answer) }
     ensures well_formed { IfOk result (λ p. IsWellFormed p params.now.settings) }
-    ensures standard { IfOk result (λ p. params.now.settings.sizes ≡ packed_16) }
-    ensures built { IfOk result (AreBuilt params.now.settings.sizes.descr) }
+    ensures built { IfOk result AreBuilt }
 {
     what_is_read_is_spelled();
     law_of_values();

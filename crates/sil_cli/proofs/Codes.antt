@@ -19,7 +19,7 @@ use Rattle.sil_cli.specs.Report.{EndingCause, finish_status}
 -- ---- the codes of endings
 
 abbrev pub is_run_code : ℕ → Bool
-is_run_code n = nat_le n 1 || (n == 7) || (n == 8)
+is_run_code n = nat_le n 1 || (n == 6) || (n == 7) || (n == 8)
 
 abbrev pub is_stop_code : ℕ → Bool
 is_stop_code n = (n == 3) || (n == 4) || (n == 10) || (n == 12) || (n == 13) || (n == 15) || (n == 16)
@@ -29,7 +29,7 @@ exit-code code h = grind (arith, nat_tests)
 
 run-code : (e : CpuEnd) → IsProgramEnd e → is_run_code (run_status e) ≡ true
 run-code (run.Exit code) h = exit-code code h
-run-code (run.Trap k) h = absurd h
+run-code (run.Trap k) h = refl
 run-code (run.Undefined k) h = refl
 run-code run.Budget h = refl
 run-code (run.UnitFault k unit) h = absurd h
@@ -154,7 +154,7 @@ free-stop stop.Memory is = inr refl
 
 free-run : (e : CpuEnd) → IsProgramEnd e → is_free_end (ending.Ran e) ≡ true → ⊥
 free-run (run.Exit code) h is = cc
-free-run (run.Trap k) h is = h
+free-run (run.Trap k) h is = cc
 free-run (run.Undefined k) h is = cc
 free-run run.Budget h is = cc
 free-run (run.UnitFault k unit) h is = h

@@ -14,7 +14,8 @@ use Rattle.sil_model.specs.Machine.{machine}
 use Rattle.image_file.specs.Image.{Image, IsImage}
 use Rattle.image_file.specs.Spelling.{spelling}
 use Rattle.rv_emulate.specs.declared.end.CpuEnd.{CpuEnd}
-use Rattle.rv_emit.specs.Ways.{as_end}
+use Rattle.rv_emulate.specs.EmulatorRuns.{budget}
+use Rattle.rv_operations.specs.Does.{as_end}
 use Rattle.sil_install.specs.Installed.{IsInstalled}
 use Rattle.sil_cli.specs.declared.ending.Ending.{Ending}
 use Rattle.sil_cli.specs.declared.ending.Ending.TheVariants as ending
@@ -27,7 +28,7 @@ use Rattle.sil_cli.specs.Inputs.{Job, job_at}
 use Rattle.sil_cli.specs.Report.{Comes, Keeps, Causes, EndingCause, has_run}
 use Rattle.sil_cli.specs.ImageRuns.{RunsBytes}
 use Rattle.sil_cli.specs.CommandWords.{Order}
-use Rattle.sil_cli.proofs.SoFar.{IsSoFar, has-end, run-so-far}
+use Rattle.sil_cli.proofs.RunEnds.{IsPlain, HasSmallExit, has-end, run-plain, emulation-small, program-end}
 use Rattle.sil_cli.proofs.Maps.{remove-insert}
 
 -- what is built of a job that is there is built of some job
@@ -124,24 +125,18 @@ go-run order before after tapes tapes' r image bytes same saved some runs accept
 
 -- ---- causes
 
-as-program-end : (x : End) → IsSoFar (Some x) → IsProgramEnd (as_end x)
-as-program-end (ends.Exit code) h = h
-as-program-end (ends.Trap k) h = h
-as-program-end (ends.Undefined k) h = tt
-as-program-end (ends.UnitFault k unit) h = h
-as-program-end ends.Budget h = tt
-as-program-end ends.Memory h = h
-
-program-end : (o : Option End) (end : CpuEnd) → option_map as_end o ≡ Some end → IsSoFar o → IsProgramEnd end
-program-end None end e h = absurd h
-program-end (Some x) end e h =
+program-ends : (o : Option End) (end : CpuEnd) → option_map as_end o ≡ Some end → IsPlain o → HasSmallExit end → IsProgramEnd end
+program-ends None end e h small = absurd h
+program-ends (Some x) end e h small =
     let same : as_end x ≡ end = same-some _ _ e in
-    rw (sym same) (as-program-end x h)
+    rw (sym same) (program-end x h (rw (sym same) at small))
 
 run-caused : (n : ℕ) (tapes tapes' : Tapes) (r : Result CpuEnd Stop) (image : List ℕ) (b a : ℕ) → (job : Job) × IsInstalled image job.program job.parameters → IfOk r (λ end. RunsBytes image n end tapes tapes') → ((i : Image) → IsImage i → image ≡ spelling i → IfErr r (λ e. e ≡ stop.Memory)) → n ≤ 2 ^ 40 → EndingCause (ending_of r) b a
 run-caused n tapes tapes' (Ok end) image b a some runs accepts few =
-    let so-far = run-so-far some.0.program some.0.parameters n _ in
-    program-end _ end (installed-end image some.0.program some.0.parameters n end tapes tapes' some.1 few runs (has-end _ so-far)) so-far
+    let plain = run-plain some.0.program some.0.parameters n _ in
+    let is = installed-end image some.0.program some.0.parameters n end tapes tapes' some.1 few runs (has-end _ plain) in
+    let small = emulation-small some.1.image tapes n (budget some.1.image n) end ((some.1.behaves.alike tapes n few).end ∙ is) in
+    program-ends _ end is plain small
 run-caused n tapes tapes' (Err e) image b a some runs accepts few =
     let memory : e ≡ stop.Memory = accepts some.1.image some.1.is_image some.1.spelled in
     rw memory tt

@@ -112,6 +112,5 @@ module _ {order : Option Order} {code : ℕ} {files files' : Option Files} {b a 
   pub status-never : IsNever code
   status-never = (
     apart 5 (λ x. absurd (omega arith)) (λ x. absurd (omega arith)) (λ x. absurd (omega arith)) (λ x. absurd (omega arith)) refl refl,
-    apart 6 (λ x. absurd (omega arith)) (λ x. absurd (omega arith)) (λ x. absurd (omega arith)) (λ x. absurd (omega arith)) refl refl,
     apart 9 (λ x. absurd (omega arith)) (λ x. absurd (omega arith)) (λ x. absurd (omega arith)) (λ x. absurd (omega arith)) refl refl,
   )

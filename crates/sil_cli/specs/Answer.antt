@@ -80,4 +80,4 @@ IsNoted expected code = (code ≡ expected) ⊎ (code ≡ 12) ⊎ (code ≡ 14)
 
 -- no command answers these yet
 abbrev pub IsNever : ℕ → Type 0
-IsNever code = (code ≢ 5) × (code ≢ 6) × (code ≢ 9)
+IsNever code = (code ≢ 5) × (code ≢ 9)

@@ -151,10 +151,10 @@ is_free_end ending.Words = false
 is_free_end (ending.Stopped stop) = is_free stop
 is_free_end (ending.Ran end) = is_free_run end
 
--- the ends that runs of installed programs have so far
+-- the ends that runs of installed programs have, as long as no macro calls a unit
 abbrev pub IsProgramEnd : CpuEnd → Type 0
 IsProgramEnd (run.Exit code) = code ≤ 1
-IsProgramEnd (run.Trap statement) = ⊥
+IsProgramEnd (run.Trap statement) = Unit {0}
 IsProgramEnd (run.Undefined statement) = Unit {0}
 IsProgramEnd run.Budget = Unit {0}
 IsProgramEnd (run.UnitFault statement unit) = ⊥

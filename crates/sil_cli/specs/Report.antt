@@ -8,7 +8,7 @@ use Rattle.unit_io.specs.Tapes.{Tapes}
 use Rattle.sil_model.specs.declared.end.End.{End}
 use Rattle.sil_model.specs.Machine.{machine}
 use Rattle.unit_io.specs.RunEnds.{Run}
-use Rattle.rv_emit.specs.Ways.{as_end}
+use Rattle.rv_operations.specs.Does.{as_end}
 use Rattle.sil_install.specs.Installed.{IsInstalled}
 use Rattle.sil_cli.specs.declared.ending.Stop.{Stop}
 use Rattle.sil_cli.specs.declared.ending.Ending.{Ending}

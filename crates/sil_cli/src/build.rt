@@ -2,7 +2,8 @@
 ghost use Rattle.std.specs.Prelude.{◌≡◌, ◌≤◌, Ok, Err, false, length, IfOk, IfErr, MatchResult, IsOkAnd};
 ghost use Rattle.sil_cards.specs.Cards.{AreCards};
 ghost use Rattle.sil_install.specs.Installed.{IsInstalled};
-ghost use Rattle.rv_emit.specs.Emits.{CanEmit};
+ghost use Rattle.sil_check.specs.Built.{AreBuilt};
+ghost use Rattle.sil_model.specs.WellFormed.{IsWellFormed};
 ghost use Rattle.sil_cli.specs.Endings.{is_free};
 ghost use Rattle.sil_cli.specs.CommandFiles.{IsCheckStop};
 ghost use Rattle.sil_cli.specs.HeldInputs.{inputs_by, job_by, AreRead, source_held};
@@ -10,6 +11,7 @@ ghost use Rattle.sil_cli.specs.Inputs.{parameters_by, cards_by, job_of, job_in};
 
 use crate::ending::Stop;
 use crate::inputs::{Inputs, Source};
+use crate::laws::law_of_built_programs;
 use layout_params::{Params, read_params};
 use sil_base::{MAX_CARDS, MAX_FILE_BYTES};
 use sil_cards::Card;
@@ -65,7 +67,8 @@ fn program_of(
         (λ p. job_of params.now tables.now cards.items
         ≡ Ok (record { program = p; parameters = params.now }))
         (λ e. is_free e ≡ false → job_of params.now tables.now cards.items ≡ Err e) }
-    ensures can_emit { IfOk result (λ p. CanEmit p params.now.settings) }
+    ensures well_formed { IfOk result (λ p. IsWellFormed p params.now.settings) }
+    ensures built { IfOk result AreBuilt }
     ensures cause { IfErr result IsCheckStop }
 {
     Ok(check(alloc, cards, tables, params)?)
@@ -80,7 +83,8 @@ pub fn make_job(alloc: Global, inputs: Inputs) -> Result<Job, Stop>
     ensures told { MatchResult result
         (λ j. job_in (inputs_by inputs) ≡ Ok (job_by j))
         (λ e. is_free e ≡ false → job_in (inputs_by inputs) ≡ Err e) }
-    ensures can_emit { IfOk result (λ j. CanEmit j.program j.params.settings) }
+    ensures well_formed { IfOk result (λ j. IsWellFormed j.program j.params.settings) }
+    ensures built { IfOk result (λ j. AreBuilt j.program) }
     ensures cause { IfErr result IsCheckStop }
 {
     let Inputs {
@@ -105,6 +109,7 @@ pub fn build(alloc: Global, inputs: Inputs) -> Result<Vec<u8>, Stop>
         (λ e. is_free e ≡ false → job_in (inputs_by inputs) ≡ Err e) }
     ensures cause { IfErr result IsCheckStop }
 {
+    law_of_built_programs();
     let job = make_job(alloc, inputs)?;
     Ok(sil_install::install(alloc, &job.program, &job.params)?)
 }

@@ -6,6 +6,7 @@ mod command;
 mod ending;
 mod files;
 mod inputs;
+mod laws;
 mod lines;
 mod main_call;
 mod notes;
@@ -14,5 +15,6 @@ mod running;
 mod words;
 
 pub use ending::{Ending, Stop};
+pub use laws::law_of_built_programs;
 pub use main_call::{Status, after_finishes, sil_main};
 pub use running::run_image;

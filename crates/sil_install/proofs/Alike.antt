@@ -134,7 +134,7 @@ module _ (image : Image) (program : Program) (parameters : Parameters) (last : �
   made : (left : ℕ) → Alike left → (m : machine.State) (s : State) (b : ℕ) (st : Statement) (w : Step) → Stands m s → m.steps + suc left ≡ n → suc left * slot + 2000 ≤ b → slice_get program.statements m.statement ≡ Some st → make_step program parameters st m ≡ w → Makes image settings last n prints (cost program parameters st m) s w → SameRun (run_under image b s) (meet m.statement (after_step w ended (abstract.run program parameters left)))
   made left all m s b st (Ends e tapes) stands count fits is does c =
       let lt = slice_get_within program.statements m.statement st is in
-      let w = same_end (writes_records st.name) b s e tapes (cost program parameters st m) c (omega (arith, enough left slot b fits, cost_fits image program parameters m st of steady is stands.valid)) in
+      let w = same_end prints b s e tapes (cost program parameters st m) c (omega (arith, enough left slot b fits, cost_fits image program parameters m st of steady is stands.valid)) in
       same_run b s e tapes (m.statement ∷ []) w.0 (w.1 ∙ met_one m s stands lt (omega arith))
   made left all m s b st (Goes m') stands count fits is does (t, c, pc, rep) =
       let lt = slice_get_within program.statements m.statement st is in

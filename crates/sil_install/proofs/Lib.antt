@@ -9,5 +9,6 @@ mod Carrying
 mod Standing
 mod First
 mod Join
+mod Expanding
 mod TableBytes
 mod Whole

@@ -48,3 +48,8 @@ on_memory f site s = with_memory s (f site.args s.memory)
 
 abbrev pub on_site : (Site → Memory → MemoryEffect) → Site → State → Effect
 on_site f site s = with_memory s (f site s.memory)
+
+-- where a call goes and the memory that it leaves; nothing is said of the memory where it is undefined
+abbrev pub after_flow : Option Flow → Memory → MemoryEffect
+after_flow None m = None
+after_flow (Some flow) m = Some (flow, m)

@@ -22,7 +22,6 @@ pub mod Machine
 pub mod Costs
 pub mod Fits
 pub mod Needs
-pub mod Built
 pub mod WellFormed
 pub mod Valid
 pub mod Prints

@@ -3,7 +3,6 @@
 #![tactic(auto)]
 
 mod arguments;
-mod built;
 mod cells;
 mod end;
 mod fields;
@@ -16,7 +15,6 @@ mod table;
 pub use arguments::{
     flag, goto, goto_list, maybe_number, maybe_place, maybe_place_list, number, place, place_list,
 };
-pub use built::{BUILT, is_built};
 pub use cells::Cells;
 pub use end::End;
 pub use fields::{a_field, f_field, set_a_field, set_f_field, set_v_field, v_field};

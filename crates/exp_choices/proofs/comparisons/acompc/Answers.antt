@@ -1,9 +1,10 @@
 use Rattle.std.proofs.Common.{length, lit≤, refl}
 use Rattle.std.proofs.lemmas.Int.{to_z-of_z}
+use Rattle.sil_model.specs.declared.program.Arg.TheVariants.{Absent}
 use Rattle.sil_model.specs.ComparisonClauses.{acompc}
 use Rattle.exp_descr.proofs.Questions.{by_read}
 use Rattle.exp_choices.proofs.Leads.{goes_to, lead_within}
-use Rattle.exp_choices.proofs.Orders.{by_order}
+use Rattle.exp_choices.proofs.Orders.{by_number, by_order}
 use Rattle.exp_choices.proofs.comparisons.acompc.Goals as goal
 use mir.Val.{SFits}
 use mir.Syntax.{w64}
@@ -14,11 +15,11 @@ returns c =
     let f_d : SFits w64 c.args.d = c.ranges.d in
     let f_n : SFits w64 c.args.n = c.ranges.n in
     let stands = simp (to_z-of_z, c.begin_statement.ensures) at c.in_ok-append.ensures.appends in
-    let to = c.statements.ensures in
-    let among = lead_within (length c.args.code.old.entries) c.args.k in
-    let w0 = among c.args.to.greater c.requires.statement (c.requires.within 2 _ refl) in
-    let w1 = among c.args.to.equal c.requires.statement (c.requires.within 3 _ refl) in
-    let w2 = among c.args.to.less c.requires.statement (c.requires.within 4 _ refl) in
+    let to = c.statements-greater.ensures in
+    let among = lead_within (length c.args.code.now.entries) c.args.k in
+    let w0 = among c.args.to.greater c.requires.statement (c.requires.within 2 Absent (lit≤ tt)) in
+    let w1 = among c.args.to.equal c.requires.statement (c.requires.within 3 Absent (lit≤ tt)) in
+    let w2 = among c.args.to.less c.requires.statement (c.requires.within 4 Absent (lit≤ tt)) in
     record {
       piece = _;
       stands = stands;
@@ -27,5 +28,6 @@ returns c =
           let m = u.state.memory in
           let valid = h.valid.memory in
           by_read m c.args.d valid (λ none. record { fuel = 8; meets = simp (h.left, none) (refl, refl, lit≤ tt) }) (λ a f v is read.
-          by_order a c.args.n (λ gt differs. record { fuel = 8; meets = simp (h.left, is, gt, to.greater, goes_to) (refl, lit≤ tt) }) (λ ge le same. record { fuel = 8; meets = simp (h.left, is, ge, le, to.equal, goes_to) (refl, lit≤ tt) }) (λ ge lt differs. record { fuel = 8; meets = simp (h.left, is, ge, lt, to.less, goes_to) (refl, lit≤ tt) }));
+          by_number c.args.n (λ n number.
+          by_order a n (λ gt differs. record { fuel = 8; meets = simp (h.left, is, number, gt, to.greater, goes_to) (refl, lit≤ tt) }) (λ ge le same. record { fuel = 8; meets = simp (h.left, is, number, ge, le, to.equal, goes_to) (refl, lit≤ tt) }) (λ ge lt differs. record { fuel = 8; meets = simp (h.left, is, number, ge, lt, to.less, goes_to) (refl, lit≤ tt) })));
     }

@@ -1,6 +1,7 @@
 use Rattle.std.proofs.Common.{length, lit≤, refl}
 use Rattle.std.proofs.lemmas.Int.{to_z-of_z}
 use Rattle.std.specs.Prelude.{pos}
+use Rattle.sil_model.specs.declared.program.Arg.TheVariants.{Absent}
 use Rattle.sil_model.specs.ComparisonClauses.{chkval}
 use Rattle.sil_model.specs.Integers.{◌⊞◌}
 use Rattle.exp_descr.proofs.Questions.{by_read}
@@ -17,11 +18,11 @@ returns c =
     let f_d2 : SFits w64 c.args.d2 = c.ranges.d2 in
     let f_s : SFits w64 c.args.s = c.ranges.s in
     let stands = simp (to_z-of_z, c.begin_statement.ensures) at c.in_ok-append.ensures.appends in
-    let to = c.statements.ensures in
-    let among = lead_within (length c.args.code.old.entries) c.args.k in
-    let w0 = among c.args.to.greater c.requires.statement (c.requires.within 3 _ refl) in
-    let w1 = among c.args.to.equal c.requires.statement (c.requires.within 4 _ refl) in
-    let w2 = among c.args.to.less c.requires.statement (c.requires.within 5 _ refl) in
+    let to = c.statements-greater.ensures in
+    let among = lead_within (length c.args.code.now.entries) c.args.k in
+    let w0 = among c.args.to.greater c.requires.statement (c.requires.within 3 Absent (lit≤ tt)) in
+    let w1 = among c.args.to.equal c.requires.statement (c.requires.within 4 Absent (lit≤ tt)) in
+    let w2 = among c.args.to.less c.requires.statement (c.requires.within 5 Absent (lit≤ tt)) in
     record {
       piece = _;
       stands = stands;

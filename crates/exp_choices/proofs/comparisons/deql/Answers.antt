@@ -1,6 +1,7 @@
 use Rattle.std.proofs.Common.{length, lit≤, refl}
 use Rattle.std.proofs.lemmas.Int.{to_z-of_z}
 use Rattle.std.specs.Prelude.{pos}
+use Rattle.sil_model.specs.declared.program.Arg.TheVariants.{Absent}
 use Rattle.sil_model.specs.ComparisonClauses.{deql}
 use Rattle.exp_descr.proofs.Questions.{by_read}
 use Rattle.exp_choices.proofs.Leads.{goes_to, lead_within}
@@ -15,10 +16,10 @@ returns c =
     let f_d1 : SFits w64 c.args.d1 = c.ranges.d1 in
     let f_d2 : SFits w64 c.args.d2 = c.ranges.d2 in
     let stands = simp (to_z-of_z, c.begin_statement.ensures) at c.in_ok-append.ensures.appends in
-    let to = c.statements.ensures in
-    let among = lead_within (length c.args.code.old.entries) c.args.k in
-    let w0 = among c.args.to.no c.requires.statement (c.requires.within 2 _ refl) in
-    let w1 = among c.args.to.yes c.requires.statement (c.requires.within 3 _ refl) in
+    let to = c.statements-no.ensures in
+    let among = lead_within (length c.args.code.now.entries) c.args.k in
+    let w0 = among c.args.to.no c.requires.statement (c.requires.within 2 Absent (lit≤ tt)) in
+    let w1 = among c.args.to.yes c.requires.statement (c.requires.within 3 Absent (lit≤ tt)) in
     record {
       piece = _;
       stands = stands;

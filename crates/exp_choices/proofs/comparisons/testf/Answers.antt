@@ -1,6 +1,7 @@
 use Rattle.std.proofs.Common.{length, lit≤, refl, rules}
 use Rattle.std.proofs.lemmas.Int.{to_z-of_z}
 use Rattle.std.specs.Prelude.{bit_and, ◌<◌, ◌==◌, ◌^◌}
+use Rattle.sil_model.specs.declared.program.Arg.TheVariants.{Absent}
 use Rattle.sil_model.specs.ComparisonClauses.{testf}
 use Rattle.sil_micro.proofs.Making.{by_test}
 use Rattle.exp_descr.proofs.Arithmetic.{both_flags}
@@ -17,10 +18,10 @@ returns c =
     let f_from : SFits w64 c.from.result = search rules in
     let exact = simp to_z-of_z at c.in_ok-append.ensures.appends in
     let stands = simp (c.begin_statement.ensures, c.from.ensures) at exact in
-    let to = c.statements.ensures in
-    let among = lead_within (length c.args.code.old.entries) c.args.k in
-    let w0 = among c.args.to.no c.requires.statement (c.requires.within 2 _ refl) in
-    let w1 = among c.args.to.yes c.requires.statement (c.requires.within 3 _ refl) in
+    let to = c.statements-no.ensures in
+    let among = lead_within (length c.args.code.now.entries) c.args.k in
+    let w0 = among c.args.to.no c.requires.statement (c.requires.within 2 Absent (lit≤ tt)) in
+    let w1 = among c.args.to.yes c.requires.statement (c.requires.within 3 Absent (lit≤ tt)) in
     record {
       piece = _;
       stands = stands;

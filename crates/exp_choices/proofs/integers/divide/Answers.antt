@@ -2,6 +2,7 @@ use Rattle.std.proofs.Common.{length, lit≤, refl}
 use Rattle.std.proofs.lemmas.Int.{to_z-of_z}
 use Rattle.layout_params.specs.declared.cell.Cell.TheVariants.{Descr}
 use Rattle.sil_model.specs.Access.{put_cell}
+use Rattle.sil_model.specs.declared.program.Arg.TheVariants.{Absent}
 use Rattle.sil_model.specs.IntegerClauses.{divide}
 use Rattle.sil_micro.specs.MicroWords.{quotient}
 use Rattle.sil_micro.proofs.Making.{by_option}
@@ -19,10 +20,10 @@ returns c =
     let f_d2 : SFits w64 c.args.d2 = c.ranges.d2 in
     let f_d3 : SFits w64 c.args.d3 = c.ranges.d3 in
     let stands = simp (to_z-of_z, c.begin_statement.ensures) at c.in_ok-append.ensures.appends in
-    let to = c.statements.ensures in
-    let among = lead_within (length c.args.code.old.entries) c.args.k in
-    let w0 = among c.args.to.no c.requires.statement (c.requires.within 3 _ refl) in
-    let w1 = among c.args.to.yes c.requires.statement (c.requires.within 4 _ refl) in
+    let to = c.statements-no.ensures in
+    let among = lead_within (length c.args.code.now.entries) c.args.k in
+    let w0 = among c.args.to.no c.requires.statement (c.requires.within 3 Absent (lit≤ tt)) in
+    let w1 = among c.args.to.yes c.requires.statement (c.requires.within 4 Absent (lit≤ tt)) in
     record {
       piece = _;
       stands = stands;

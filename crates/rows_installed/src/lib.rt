@@ -1,0 +1,16 @@
+// Installed programs beside the abstract machine: the rows of macros as sources, operands at the edges
+// of memory, and sources from seeds under layouts of every size.
+#![tactic(auto)]
+
+#[cfg(test)]
+mod agreement;
+#[cfg(test)]
+mod edges;
+#[cfg(test)]
+mod ends;
+#[cfg(test)]
+mod rows;
+#[cfg(test)]
+mod source;
+#[cfg(test)]
+mod texts;
