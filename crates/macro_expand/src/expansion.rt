@@ -9,12 +9,14 @@ ghost use Rattle.sil_model.specs.WellFormed.{IsWellFormed};
 ghost use Rattle.sil_micro.specs.Expands.{Expands};
 ghost use Rattle.sil_micro.specs.Pieces.{weights};
 ghost use Rattle.exp_choices.specs.Locations.{LocatesWithin};
+ghost use Rattle.exp_stack.specs.Allowed.{AreAmong, HasFewItems};
 ghost use Rattle.macro_expand.specs.Expanded.{AreExpanded, IsExpansion, RunsAsTheMachine, is_expanded};
 ghost use Rattle.macro_expand.specs.Steps.{StepsWithinCosts};
 
 use exp_choices::{expand_choice, is_choice};
 use exp_descr::expand_descr;
 use exp_flow::{expand_flow, is_flow};
+use exp_stack::{expand_stack, is_stack};
 use layout_params::Params;
 use sil_base::{MAX_STATEMENTS, Record};
 use sil_micro::{Code, MAX_PIECE_WEIGHT, law_on_ways};
@@ -58,6 +60,8 @@ fn expand(
     requires group { IsTrue (is_expanded statement.now.name) }
     requires fits { IsTrue (fit (row statement.now.name).places statement.now.args) }
     requires locations { All (LocatesWithin (length code.old.entries)) statement.now.args }
+    requires items { All HasFewItems statement.now.args }
+    requires among { AreAmong (length code.old.entries) specials.now }
     requires number { at < length code.old.entries }
     requires few { length code.old.entries ≤ MAX_STATEMENTS }
     requires light { weights code.old.ops ≤ MAX_PIECE_WEIGHT * at }
@@ -67,6 +71,8 @@ fn expand(
         expand_flow(alloc, statement, at, specials, code)
     } else if is_choice(statement.name) {
         expand_choice(alloc, statement, at, specials, code)
+    } else if is_stack(statement.name) {
+        expand_stack(alloc, statement, at, specials, code)
     } else {
         expand_descr(alloc, statement, at, specials, code)
     }

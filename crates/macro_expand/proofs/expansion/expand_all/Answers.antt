@@ -1,7 +1,7 @@
 use Rattle.std.proofs.Common.{◌≡◌, length, ap, arith, subst}
 use Rattle.macro_expand.proofs.Costs.{makes_step}
 use Rattle.macro_expand.proofs.Growing.{statement_at, SoFar}
-use Rattle.macro_expand.proofs.Locating.{located}
+use Rattle.macro_expand.proofs.Locating.{few_items, located, specials_among}
 use Rattle.macro_expand.proofs.Running.{runs_to}
 use Rattle.macro_expand.proofs.Stepping.{step, whole}
 use Rattle.macro_expand.proofs.expansion.expand_all.Goals as goal
@@ -10,6 +10,14 @@ pub expand-requires-clause-locations : goal.expand-requires-clause-locations
 expand-requires-clause-locations c =
     located c.args.program.now c.args.params.now.settings c.loop-k.k (length c.loop-k.code.entries) c.index-statements-k.result c.requires.well_formed.rows
     (statement_at c.args.program.now c.items-statements.result.now c.loop-k.k c.index-statements-k.result c.items-statements.ensures c.loop-k-test.true c.index-statements-k.is) c.loop-k.invariant.statements
+
+pub expand-requires-clause-items : goal.expand-requires-clause-items
+expand-requires-clause-items c =
+    few_items c.args.program.now c.args.params.now.settings c.loop-k.k c.index-statements-k.result c.requires.well_formed.rows
+    (statement_at c.args.program.now c.items-statements.result.now c.loop-k.k c.index-statements-k.result c.items-statements.ensures c.loop-k-test.true c.index-statements-k.is)
+
+pub expand-requires-clause-among : goal.expand-requires-clause-among
+expand-requires-clause-among c = specials_among c.args.program.now c.args.params.now.settings (length c.loop-k.code.entries) c.requires.well_formed.specials c.loop-k.invariant.statements
 
 pub loop-k-preserved : goal.loop-k-preserved
 loop-k-preserved c = step c.args.program.now c.loop-k.k c.loop-k.code c.expand.new.code c.index-statements-k.result c.loop-k.invariant (omega (arith, c.loop-k-test.true, ap length c.items-statements.ensures)) (statement_at c.args.program.now c.items-statements.result.now c.loop-k.k c.index-statements-k.result c.items-statements.ensures c.loop-k-test.true c.index-statements-k.is) c.in_ok-expand.ensures
