@@ -24,9 +24,6 @@ then_ok (Err e) h f = tt
 
 -- ---- the routines
 
-abbrev pub checks : Sizes → ℕ → List Instr
-checks sizes n = check_routine sizes.descr n ++ fit_routine (bits_of sizes F) sizes.descr n ++ fit_routine (bits_of sizes V) sizes.descr n ++ open_routine (bits_of sizes F) (bits_of sizes V) sizes.descr n
-
 pub routine_parts : (sizes : Sizes) (n : ℕ) (a b e f : List Instr)
     → b ≡ a ++ check_routine sizes.descr n ++ fit_routine (bits_of sizes F) sizes.descr n ++ fit_routine (bits_of sizes V) sizes.descr n ++ open_routine (bits_of sizes F) (bits_of sizes V) sizes.descr n
     → e ≡ b ++ char_routine sizes.descr n ++ word_routine sizes.descr n ++ below_routine scratch_words ++ below_routine n ++ below_routine 3
