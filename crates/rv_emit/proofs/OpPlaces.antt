@@ -1,5 +1,5 @@
 -- The list of the places of operations.
-use Rattle.std.proofs.Common.{◌≡◌, ℕ, zero, suc, ◌+◌, ◌-◌, ◌*◌, ◌<◌, ◌≤◌, List, [], ◌∷◌, ◌++◌, length, get_or, take, refl, sym, ap, ◌∙◌, arith, append_assoc}
+use Rattle.std.proofs.Common.{◌≡◌, ℕ, zero, suc, ◌+◌, ◌-◌, ◌<◌, ◌≤◌, List, [], ◌∷◌, ◌++◌, length, get_or, refl, sym, ap, ◌∙◌, arith, append_assoc}
 use Rattle.layout_params.specs.Parameters.{Settings}
 use Rattle.sil_micro.specs.Codes.{MicroCode}
 use Rattle.rv_emit.specs.Code.{first_op, op_place}

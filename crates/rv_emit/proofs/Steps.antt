@@ -1,5 +1,5 @@
 -- Operations, and jumps of tables, appended one by one.
-use Rattle.std.proofs.Common.{◌≡◌, ℕ, zero, suc, ◌+◌, ◌-◌, ◌*◌, ◌^◌, ◌<◌, ◌≤◌, List, [], ◌∷◌, ◌++◌, length, drop, get_or, map, take, Option, Some, None, refl, sym, ap, subst, ◌∙◌, arith, append_assoc}
+use Rattle.std.proofs.Common.{◌≡◌, ℕ, suc, ◌+◌, ◌-◌, ◌*◌, ◌^◌, ◌<◌, ◌≤◌, List, [], ◌∷◌, ◌++◌, length, drop, get_or, map, take, Some, None, sym, ap, subst, ◌∙◌, arith, append_assoc}
 use Rattle.std.proofs.lemmas.List.{append-nil, drop_all, drop_more, map_more, take_all}
 use Rattle.std.proofs.lemmas.List.Elements.{All-more}
 use Rattle.std.proofs.lemmas.Option.{slice_get-get_or}
@@ -15,7 +15,7 @@ use Rattle.rv_operations.specs.declared.places.Routines.{Routines}
 use Rattle.rv_operations.specs.Codes.{instructions, op_length}
 use Rattle.rv_operations.specs.Links.{links_of}
 use Rattle.rv_operations.specs.Switch.{led}
-use Rattle.rv_emit.specs.Code.{first_op, length_of, number_of, op_place, ops_code, place_from, places_of, routines_at, site_of, table_code}
+use Rattle.rv_emit.specs.Code.{length_of, number_of, op_place, ops_code, place_from, places_of, routines_at, site_of, table_code}
 use Rattle.rv_emit.specs.Emits.{CanEmit}
 use Rattle.rv_emit.specs.Planned.{IsWord, leads, operations_of, routine_of, table_of}
 use Rattle.rv_emit.specs.declared.plan.Switch.{Switch}

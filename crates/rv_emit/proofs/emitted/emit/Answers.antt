@@ -1,7 +1,7 @@
-use Rattle.std.proofs.Common.{◌≡◌, length, sym, ap, subst, ◌∙◌, arith}
+use Rattle.std.proofs.Common.{length, sym, ap, subst, ◌∙◌, arith}
 use Rattle.std.specs.List.{flat_map}
 use Rattle.std.specs.Prelude.{All}
-use Rattle.rv_emit.specs.Emits.{FitsImage, HasNumber, statement_places, words_of}
+use Rattle.rv_emit.specs.Emits.{FitsImage, HasNumber, statement_places}
 use Rattle.rv_emit.proofs.Rising.{fits_image, narrow, words_few}
 use Rattle.rv_emit.proofs.emitted.emit.Goals as goal
 

@@ -1,4 +1,4 @@
-use Rattle.std.proofs.Common.{◌≤◌, ◌+◌, sym, ap, ◌∙◌, arith}
+use Rattle.std.proofs.Common.{◌+◌, sym, ap, ◌∙◌, arith}
 use Rattle.layout_params.proofs.LegalLayouts.{legal}
 use Rattle.rv_operations.specs.Switch.{switch_code}
 use Rattle.rv_emit.specs.Planned.{routine_of}
