@@ -1,5 +1,5 @@
 // Ends of runs.
-ghost use Rattle.std.specs.Prelude.{◌+◌, ◌<◌, ◌^◌, ◌∷◌, [], OnOk, length};
+ghost use Rattle.std.specs.Prelude.{◌+◌, ◌<◌, ◌^◌, ◌∷◌, [], OnOk, false, length};
 ghost use Rattle.sil_macros.specs.declared.names.Macro.TheVariants.{Endex};
 ghost use Rattle.sil_model.specs.FlowClauses.{endex};
 ghost use Rattle.sil_model.specs.Costs.{visits};

@@ -1,7 +1,8 @@
 -- A code that grows statement by statement.
 use Rattle.std.proofs.Common.{◌≡◌, ℕ, zero, suc, ◌+◌, ◌*◌, ◌<◌, ◌≤◌, ◌==◌, List, [], ◌∷◌, ◌++◌, length, Option, Some, None, Bool, true, false, ◌&&◌, ◌||◌, refl, sym, ap, ◌∙◌, arith}
 use Rattle.std.proofs.lemmas.Bool.Decides.{nat_tests}
-use Rattle.std.specs.Prelude.{All, slice_get, if◌then◌else◌}
+use Rattle.std.proofs.lemmas.Option.{slice_get_read}
+use Rattle.std.specs.Prelude.{get_or, slice_get, if◌then◌else◌}
 use Rattle.sil_model.specs.declared.program.Program.{Program}
 use Rattle.sil_model.specs.declared.program.Statement.{Statement}
 use Rattle.sil_model.specs.Costs.{visits}
@@ -55,6 +56,10 @@ first_begin (op ∷ ops) zero k j once first e = let a : Begin k ≡ Begin j = c
 first_begin (op ∷ ops) (suc i) k j once first e = let no : is_no_begin (Begin j) ≡ true = op_at is_no_begin ops i (Begin j) once e in absurd (cc)
 
 -- ---- statements so far
+
+-- the statement that was read at a place
+pub statement_at : (program : Program) (items : List Statement) (k : ℕ) (statement : Statement) → items ≡ program.statements → k < length items → statement ≡ get_or items k statement → slice_get program.statements k ≡ Some statement
+statement_at program items k statement e lt is = ap (λ l. slice_get l k) (sym e) ∙ slice_get_read items (length items) k statement refl lt is
 
 -- the place of statement k, of which those below i have one
 abbrev pub place_so_far : MicroCode → ℕ → ℕ → Option ℕ
@@ -130,9 +135,3 @@ quiet_placed b _ h = h
 -- a macro that writes nothing has a piece that doesn't
 pub quiet_piece : (prints : Bool) (ops : List Op) → prints ≡ false → (prints || all_ops is_quiet ops) ≡ true → all_ops is_quiet ops ≡ true
 quiet_piece prints ops e h = sym (ap (λ b. b || all_ops is_quiet ops) e) ∙ h
-
--- what is said of all is said of the one at a place
-pub silent_at : (statements : List Statement) (k : ℕ) (statement : Statement) → All (λ s. writes_records s.name ≡ false) statements → slice_get statements k ≡ Some statement → writes_records statement.name ≡ false
-silent_at [] k statement h e = absurd (cc)
-silent_at (s ∷ statements) zero statement h e = let same : s ≡ statement = cc in ap (λ x. writes_records x.name) (sym same) ∙ h 0 s refl
-silent_at (s ∷ statements) (suc k) statement h e = silent_at statements k statement (λ i x g. h (suc i) x g) e

@@ -3,3 +3,4 @@ mod Stepping
 mod Running
 mod Costs
 mod Names
+pub mod Locating

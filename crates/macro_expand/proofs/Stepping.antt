@@ -10,6 +10,7 @@ use Rattle.sil_model.specs.declared.program.Statement.{Statement}
 use Rattle.sil_model.specs.Costs.{visits}
 use Rattle.sil_model.specs.Prints.{writes_records, IsSilent}
 use Rattle.sil_model.specs.Table.{clause}
+use Rattle.sil_model.proofs.Keeps.{all_at}
 use Rattle.sil_model.proofs.Places.{set_here, set_there}
 use Rattle.sil_micro.specs.declared.op.Op.{Op}
 use Rattle.sil_micro.specs.declared.op.Op.TheVariants.{Begin}
@@ -20,7 +21,7 @@ use Rattle.sil_micro.specs.Pieces.{placed, placed_op, fits_part, is_quiet, names
 use Rattle.sil_micro.proofs.Making.{by_test}
 use Rattle.sil_micro.proofs.Parts.{all_alike, all_append, length_placed, weights_append, weights_placed}
 use Rattle.macro_expand.specs.Expanded.{IsExpansion}
-use Rattle.macro_expand.proofs.Growing.{get_left, get_front, get_right, get_placed, begin_placed, first_begin, all_longer, part_leads, names_placed, quiet_placed, quiet_piece, silent_at, place_so_far, Stands, SoFar}
+use Rattle.macro_expand.proofs.Growing.{get_left, get_front, get_right, get_placed, begin_placed, first_begin, all_longer, part_leads, names_placed, quiet_placed, quiet_piece, place_so_far, Stands, SoFar}
 
 by_equal : {P : Type 0} (k i : ℕ) → (k ≡ i → P) → (k ≢ i → P) → P
 by_equal k i same other = by_test (nat_eq k i) (λ yes. same (grind (arith, nat_tests, yes))) (λ no. other (λ e. let yes : nat_eq k i ≡ true = grind (arith, nat_tests, e) in absurd (cc)))
@@ -114,7 +115,7 @@ module _ (program : Program) (i : ℕ) (c : MicroCode) (before : SoFar program i
 
   still_quiet : prints ≡ false → IsSilent program → all_ops is_quiet next.ops ≡ true
   unfolding placed
-  still_quiet no silent = all_append is_quiet c.ops more (before.quiet silent) (all_alike is_quiet is_quiet (placed_op (length c.ops)) (quiet_placed (length c.ops)) piece (quiet_piece prints piece no is_piece.quiet))
+  still_quiet silence silent = all_append is_quiet c.ops more (before.quiet silent) (all_alike is_quiet is_quiet (placed_op (length c.ops)) (quiet_placed (length c.ops)) piece (quiet_piece prints piece silence is_piece.quiet))
 
   same_piece : (k : ℕ) (p : Bool) (ops : List Op) → IsPiece k (length c.entries) (length c.formats) p ops → IsPiece k (length next.entries) (length next.formats) p ops
   same_piece k p ops is = subst (λ n. IsPiece k n (length c.formats) p ops) (sym same_count) is
@@ -137,18 +138,18 @@ module _ (program : Program) (i : ℕ) (c : MicroCode) (before : SoFar program i
   }
 
   latest : (statement : Statement) → prints ≡ writes_records statement.name → Does i piece program.specials statement.args (clause statement.name) (visits statement.name) → Stands next program (i + 1) i statement
-  latest statement as does = record {
+  latest statement says does = record {
     base = length c.ops;
     piece = piece;
     entry = entry_here;
     each = λ j op e. get_right c.ops more j ∙ get_placed (length c.ops) piece j op e;
     follows = place_here next (i + 1) (i + 1) refl ∙ ap (λ n. Some n) count;
-    is_piece = subst (λ p. IsPiece i (length next.entries) (length next.formats) p piece) as (same_piece i prints piece is_piece);
+    is_piece = subst (λ p. IsPiece i (length next.entries) (length next.formats) p piece) says (same_piece i prints piece is_piece);
     does = does;
   }
 
   pub one_more : (statement : Statement) → slice_get program.statements i ≡ Some statement → prints ≡ writes_records statement.name → Does i piece program.specials statement.args (clause statement.name) (visits statement.name) → SoFar program (i + 1) next
-  one_more statement is as does = record {
+  one_more statement is says does = record {
     statements = same_count ∙ before.statements;
     static_cells = before.static_cells;
     formats = before.formats;
@@ -160,13 +161,13 @@ module _ (program : Program) (i : ℕ) (c : MicroCode) (before : SoFar program i
     returns = before.returns;
     jumps = still_jumps;
     names = still_names;
-    quiet = λ silent. still_quiet (as ∙ silent_at program.statements i statement silent is) silent;
+    quiet = λ silent. still_quiet (says ∙ all_at (λ s. writes_records s.name ≡ false) program.statements i statement silent is) silent;
     light = still_light;
     each = λ k s lt e. by_equal k i
         (λ same.
         let at : slice_get program.statements i ≡ Some s = ap (λ j. slice_get program.statements j) (sym same) ∙ e in
         let this : statement ≡ s = same_Some statement s (sym is ∙ at) in
-        subst (λ j. Stands next program (i + 1) j s) (sym same) (subst (λ t. Stands next program (i + 1) i t) this (latest statement as does)))
+        subst (λ j. Stands next program (i + 1) j s) (sym same) (subst (λ t. Stands next program (i + 1) i t) this (latest statement says does)))
         (λ ne. earlier k s ne (before.each k s (omega (arith, lt, ne)) e));
   }
 

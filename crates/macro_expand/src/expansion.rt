@@ -1,5 +1,5 @@
 // The expansion of all statements of a program.
-ghost use Rattle.std.specs.Prelude.{◌≡◌, ◌*◌, ◌<◌, ◌≤◌, IfOk, OnOk, IsTrue, length, map};
+ghost use Rattle.std.specs.Prelude.{◌≡◌, ◌*◌, ◌<◌, ◌≤◌, All, IfOk, OnOk, IsTrue, length, map};
 ghost use Rattle.sil_macros.specs.Rows.{row};
 ghost use Rattle.sil_model.specs.Costs.{visits};
 ghost use Rattle.sil_model.specs.Fits.{fit};
@@ -8,9 +8,11 @@ ghost use Rattle.sil_model.specs.Table.{clause};
 ghost use Rattle.sil_model.specs.WellFormed.{IsWellFormed};
 ghost use Rattle.sil_micro.specs.Expands.{Expands};
 ghost use Rattle.sil_micro.specs.Pieces.{weights};
+ghost use Rattle.exp_choices.specs.Locations.{LocatesWithin};
 ghost use Rattle.macro_expand.specs.Expanded.{AreExpanded, IsExpansion, RunsAsTheMachine, is_expanded};
 ghost use Rattle.macro_expand.specs.Steps.{StepsWithinCosts};
 
+use exp_choices::{expand_choice, is_choice};
 use exp_descr::expand_descr;
 use exp_flow::{expand_flow, is_flow};
 use layout_params::Params;
@@ -55,6 +57,7 @@ fn expand(
 ) -> Result<(), AllocError>
     requires group { IsTrue (is_expanded statement.now.name) }
     requires fits { IsTrue (fit (row statement.now.name).places statement.now.args) }
+    requires locations { All (LocatesWithin (length code.old.entries)) statement.now.args }
     requires number { at < length code.old.entries }
     requires few { length code.old.entries ≤ MAX_STATEMENTS }
     requires light { weights code.old.ops ≤ MAX_PIECE_WEIGHT * at }
@@ -62,6 +65,8 @@ fn expand(
 {
     if is_flow(statement.name) {
         expand_flow(alloc, statement, at, specials, code)
+    } else if is_choice(statement.name) {
+        expand_choice(alloc, statement, at, specials, code)
     } else {
         expand_descr(alloc, statement, at, specials, code)
     }

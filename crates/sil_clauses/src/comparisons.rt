@@ -1,7 +1,7 @@
 // The macros that compare, one function each.
 ghost use Rattle.std.specs.Prelude.{◌≡◌};
 ghost use Rattle.sil_model.specs.ComparisonClauses.{acomp, acompc, aeql, aeqlc, aeqlic, chkval, deql, lcomp, leqlc, testf, testfi, vcmpic, veql, veqlc};
-ghost use Rattle.sil_clauses.specs.Flows.{after_flow};
+ghost use Rattle.sil_model.specs.Effects.{after_flow};
 
 use crate::choices::{by_equality, by_flags, by_order, by_sameness, length};
 use crate::words::{integer, wrapped_sum};

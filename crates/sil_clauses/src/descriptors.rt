@@ -1,7 +1,7 @@
 // The macros on descriptors, one function each.
 ghost use Rattle.std.specs.Prelude.{◌≡◌};
 ghost use Rattle.sil_model.specs.DescriptorClauses.{adjust, decra, getac, getd, getdc, getsiz, incra, incrv, mova, movd, movdic, movv, putac, putd, putdc, putvc, resetf, rsetfi, setac, setav, setf, setfi, setsiz, setva, setvc};
-ghost use Rattle.sil_clauses.specs.Flows.{after_flow};
+ghost use Rattle.sil_model.specs.Effects.{after_flow};
 
 use crate::results::set_integer;
 use crate::words::{bits_without, integer, wrapped_difference, wrapped_sum};

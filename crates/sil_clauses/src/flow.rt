@@ -1,7 +1,7 @@
 // The macros of flow that look at the memory alone, one function each.
 ghost use Rattle.std.specs.Prelude.{◌≡◌};
 ghost use Rattle.sil_model.specs.FlowClauses.{endex};
-ghost use Rattle.sil_clauses.specs.Flows.{after_flow};
+ghost use Rattle.sil_model.specs.Effects.{after_flow};
 
 use sil_model::{Arg, Cells, Flow, a_field, place};
 

@@ -1,7 +1,7 @@
 // The macros on integers, one function each.
 ghost use Rattle.std.specs.Prelude.{◌≡◌};
 ghost use Rattle.sil_model.specs.IntegerClauses.{divide, mnsint, mult, multc, subtrt, sum};
-ghost use Rattle.sil_clauses.specs.Flows.{after_flow};
+ghost use Rattle.sil_model.specs.Effects.{after_flow};
 
 use crate::results::{deliver, set_integer};
 use crate::words::{

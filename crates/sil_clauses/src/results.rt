@@ -5,7 +5,7 @@ ghost use Rattle.sil_model.specs.Access.{set_descr_at, written};
 ghost use Rattle.sil_model.specs.DescriptorClauses.{integer_alone};
 ghost use Rattle.sil_model.specs.IntegerClauses.{deliver};
 ghost use Rattle.sil_model.specs.Memory.{FitsCell};
-ghost use Rattle.sil_clauses.specs.Flows.{after_flow};
+ghost use Rattle.sil_model.specs.Effects.{after_flow};
 
 use layout_params::Descr;
 use sil_model::{Cells, Flow};

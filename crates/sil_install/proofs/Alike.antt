@@ -16,7 +16,7 @@ use Rattle.sil_model.specs.Machine as abstract
 use Rattle.sil_model.specs.Machine.{make_step, step, after, after_step, machine as machine_run, with_statement, ended, meet, ends_with}
 use Rattle.sil_model.specs.Costs.{cost}
 use Rattle.sil_model.specs.Valid.{IsValid, IsSteady}
-use Rattle.sil_model.specs.Prints.{writes_records, IsSilent}
+use Rattle.sil_model.specs.Prints.{IsSilent}
 use Rattle.image_file.specs.Image.{Image}
 use Rattle.rv_emit.specs.Parts.{IsImageOf}
 use Rattle.rv_emulate.specs.declared.end.CpuEnd.{CpuEnd}
@@ -26,7 +26,9 @@ use Rattle.rv_emulate.specs.Runs.{run, met, met_now, met_with, listed, entry_at,
 use Rattle.rv_emulate.specs.Ways.{Calls}
 use Rattle.rv_emulate.proofs.RunLaws.{run-add, run-end, met-add, met-end, met_way, along_at, later_at}
 use Rattle.rv_emit.specs.Represents.{Represents}
-use Rattle.rv_emit.specs.Ways.{place, as_end, IsBetween, Permits, Comes, ComesTo, EndsAs, Makes, CarriesOut}
+use Rattle.rv_straight.specs.Ways.{IsBetween, Permits, Comes}
+use Rattle.rv_operations.specs.Does.{as_end}
+use Rattle.rv_emit.specs.Ways.{place, ComesTo, EndsAs, Makes, CarriesOut}
 use Rattle.sil_install.specs.Installed.{SameRun, RunsAlike, Stops, Arrives, IsEnd, Within}
 use Rattle.sil_install.specs.Law.{LawOfInstalledImages}
 use Rattle.sil_install.proofs.Counts.{less, enough, after_start, at_start, slot_large, slot_of, cost_fits}
@@ -41,7 +43,7 @@ some_statement [] i h = absurd (omega arith)
 some_statement (x ∷ xs) zero h = (x, refl)
 some_statement (x ∷ xs) (suc i) h = some_statement xs i (omega arith)
 
-module _ (image : Image) (program : Program) (parameters : Parameters) (last : ℕ) (steady : IsSteady program parameters) (of : IsImageOf image program parameters.settings) (carries : CarriesOut image program parameters last) (n : ℕ) (small : n ≤ 2 ^ 40) where
+module _ (image : Image) (program : Program) (parameters : Parameters) (last : ℕ) (steady : IsSteady program parameters) (of : IsImageOf image program parameters.settings) (prints : Bool) (carries : CarriesOut image program parameters last prints) (n : ℕ) (small : n ≤ 2 ^ 40) where
   abbrev settings : Settings
   settings = parameters.settings
 
@@ -129,16 +131,16 @@ module _ (image : Image) (program : Program) (parameters : Parameters) (last : �
   abbrev Alike : ℕ → Type 0
   Alike left = (m : machine.State) (s : State) (b : ℕ) → Stands m s → m.steps + left ≡ n → left * slot + 2000 ≤ b → SameRun (run_under image b s) (abstract.run program parameters left m)
 
-  made : (left : ℕ) → Alike left → (m : machine.State) (s : State) (b : ℕ) (st : Statement) (w : Step) → Stands m s → m.steps + suc left ≡ n → suc left * slot + 2000 ≤ b → slice_get program.statements m.statement ≡ Some st → make_step program parameters st m ≡ w → Makes image settings last n (writes_records st.name) (cost program parameters st m) s w → SameRun (run_under image b s) (meet m.statement (after_step w ended (abstract.run program parameters left)))
+  made : (left : ℕ) → Alike left → (m : machine.State) (s : State) (b : ℕ) (st : Statement) (w : Step) → Stands m s → m.steps + suc left ≡ n → suc left * slot + 2000 ≤ b → slice_get program.statements m.statement ≡ Some st → make_step program parameters st m ≡ w → Makes image settings last n prints (cost program parameters st m) s w → SameRun (run_under image b s) (meet m.statement (after_step w ended (abstract.run program parameters left)))
   made left all m s b st (Ends e tapes) stands count fits is does c =
       let lt = slice_get_within program.statements m.statement st is in
-      let w = same_end (writes_records st.name) b s e tapes (cost program parameters st m) c (omega (arith, enough left slot b fits, cost_fits image program parameters m st of steady is stands.valid)) in
+      let w = same_end prints b s e tapes (cost program parameters st m) c (omega (arith, enough left slot b fits, cost_fits image program parameters m st of steady is stands.valid)) in
       same_run b s e tapes (m.statement ∷ []) w.0 (w.1 ∙ met_one m s stands lt (omega arith))
   made left all m s b st (Goes m') stands count fits is does (t, c, pc, rep) =
       let lt = slice_get_within program.statements m.statement st is in
       let kept = steady.keeps st m m' is stands.valid (omega arith) does in
       let soon : suc c.more ≤ slot = omega (arith, c.soon, cost_fits image program parameters m st of steady is stands.valid) in
-      let w = way_run (writes_records st.name) (cost program parameters st m) s t c b (omega (arith, enough left slot b fits)) in
+      let w = way_run prints (cost program parameters st m) s t c b (omega (arith, enough left slot b fits)) in
       let rest = all m' t (b - suc c.more) (record { valid = kept.0; pc = pc; stands = rep }) (omega (arith, kept.1)) (less left slot c.more b fits soon) in
       record {
         end = ap end_of w.0 ∙ rest.end;
@@ -183,16 +185,16 @@ module _ (image : Image) (program : Program) (parameters : Parameters) (last : �
   one_more m m' x k is does =
       ap (λ o. after_step (with_statement o (ends_with (Undefined m.statement) m) (λ statement. make_step program parameters statement m)) Ends (after program parameters k)) is ∙ ap (λ w. after_step w Ends (after program parameters k)) does
 
-  found_made : (left : ℕ) → Finds left → (m : machine.State) (s : State) (i : ℕ) (t : State) (x : Statement) (w : Step) → Stands m s → m.steps + suc left ≡ n → run image (suc i) s ≡ On t → Stops image last t.pc → slice_get program.statements m.statement ≡ Some x → make_step program parameters x m ≡ w → Makes image settings last n (writes_records x.name) (cost program parameters x m) s w → Matched m (length (met image (suc i) s)) t
-  found_made left all m s i t x (Ends e tapes) st count r stop is does c = absurd (no_stop (writes_records x.name) (cost program parameters x m) s t (option_map as_end e) tapes c i r stop)
+  found_made : (left : ℕ) → Finds left → (m : machine.State) (s : State) (i : ℕ) (t : State) (x : Statement) (w : Step) → Stands m s → m.steps + suc left ≡ n → run image (suc i) s ≡ On t → Stops image last t.pc → slice_get program.statements m.statement ≡ Some x → make_step program parameters x m ≡ w → Makes image settings last n prints (cost program parameters x m) s w → Matched m (length (met image (suc i) s)) t
+  found_made left all m s i t x (Ends e tapes) st count r stop is does c = absurd (no_stop prints (cost program parameters x m) s t (option_map as_end e) tapes c i r stop)
   found_made left all m s i t x (Goes m') st count r stop is does (u, c, pc, rep) =
-      elim (cases_lt i c.more) [ inl lt ↦ absurd (not_between (writes_records x.name) (cost program parameters x m) s t (On u) c i lt r stop) | inr le ↦ later le ]
+      elim (cases_lt i c.more) [ inl lt ↦ absurd (not_between prints (cost program parameters x m) s t (On u) c i lt r stop) | inr le ↦ later le ]
     where
       later : c.more ≤ i → Matched m (length (met image (suc i) s)) t
       later le =
           let lt = slice_get_within program.statements m.statement x is in
           let kept = steady.keeps x m m' is st.valid (omega arith) does in
-          let w = way_run (writes_records x.name) (cost program parameters x m) s u c (suc i) (omega arith) in
+          let w = way_run prints (cost program parameters x m) s u c (suc i) (omega arith) in
           let rest = all m' u (suc i - suc c.more) t (record { valid = kept.0; pc = pc; stands = rep }) (omega (arith, kept.1)) (sym w.0 ∙ r) stop in
           let many : length (met image (suc i) s) ≡ suc (length (met image (suc i - suc c.more) u)) = ap length (w.1 ∙ ap (λ xs. xs ++ met image (suc i - suc c.more) u) (met_one m s st lt (omega arith))) in
           (rest.0, record { comes = ap (λ k. after program parameters k m) many ∙ one_more m m' x (length (met image (suc i - suc c.more) u)) is does ∙ rest.1.comes; stands = rest.1.stands })
@@ -227,10 +229,6 @@ module _ (image : Image) (program : Program) (parameters : Parameters) (last : �
 
   -- ---- what is silent makes no call 3
 
-  silent_at : IsSilent program → (k : ℕ) (x : Statement) → slice_get program.statements k ≡ Some x → writes_records x.name ≡ false
-  silent_at hush k x is =
-      subst (λ y. writes_records y.name ≡ false) (get_or_from_slice_get program.statements k x x is) (hush k x (slice_get_within program.statements k x is))
-
   not_called : (q : Bool) (t : State) → q ≡ false → Permits image q t → Calls image 3 t → ⊥
   not_called q t e p h = (let f : Permits image false t = subst (λ b. Permits image b t) e p in f h)
 
@@ -244,15 +242,15 @@ module _ (image : Image) (program : Program) (parameters : Parameters) (last : �
   abbrev Quiet : ℕ → Type 0
   Quiet left = (m : machine.State) (s : State) (i : ℕ) (t : State) → Stands m s → m.steps + left ≡ n → run image i s ≡ On t → Calls image 3 t → ⊥
 
-  quiet_made : (left : ℕ) → Quiet left → (m : machine.State) (s : State) (i : ℕ) (t : State) (x : Statement) (w : Step) → writes_records x.name ≡ false → Stands m s → m.steps + suc left ≡ n → run image i s ≡ On t → Calls image 3 t → slice_get program.statements m.statement ≡ Some x → make_step program parameters x m ≡ w → Makes image settings last n (writes_records x.name) (cost program parameters x m) s w → ⊥
-  quiet_made left all m s i t x (Ends e tapes) hush st count r h is does c = quiet_end (writes_records x.name) (cost program parameters x m) s t (option_map as_end e) tapes c i hush r h
+  quiet_made : (left : ℕ) → Quiet left → (m : machine.State) (s : State) (i : ℕ) (t : State) (x : Statement) (w : Step) → prints ≡ false → Stands m s → m.steps + suc left ≡ n → run image i s ≡ On t → Calls image 3 t → slice_get program.statements m.statement ≡ Some x → make_step program parameters x m ≡ w → Makes image settings last n prints (cost program parameters x m) s w → ⊥
+  quiet_made left all m s i t x (Ends e tapes) hush st count r h is does c = quiet_end prints (cost program parameters x m) s t (option_map as_end e) tapes c i hush r h
   quiet_made left all m s i t x (Goes m') hush st count r h is does (u, c, pc, rep) =
-      elim (cases_lt i (suc c.more)) [ inl lt ↦ quiet_way (writes_records x.name) (cost program parameters x m) s t (On u) c i hush lt r h | inr le ↦ later le ]
+      elim (cases_lt i (suc c.more)) [ inl lt ↦ quiet_way prints (cost program parameters x m) s t (On u) c i hush lt r h | inr le ↦ later le ]
     where
       later : suc c.more ≤ i → ⊥
       later le =
           let kept = steady.keeps x m m' is st.valid (omega arith) does in
-          let w = way_run (writes_records x.name) (cost program parameters x m) s u c i le in
+          let w = way_run prints (cost program parameters x m) s u c i le in
           all m' u (i - suc c.more) t (record { valid = kept.0; pc = pc; stands = rep }) (omega (arith, kept.1)) (sym w.0 ∙ r) h
 
   quiet_past : (m : machine.State) (s t : State) (i : ℕ) → Stands m s → slice_get program.statements m.statement ≡ None → run image i s ≡ On t → Calls image 3 t → ⊥
@@ -266,12 +264,12 @@ module _ (image : Image) (program : Program) (parameters : Parameters) (last : �
   quiet_zero m s i t (Some x) st count is r h =
       quiet_end false 2000 s t (Some (as_end Budget)) m.tapes (carries.bound n m s small (slice_get_within program.statements m.statement x is) st.valid (omega arith) st.pc st.stands) i refl r h
 
-  quiet_more : IsSilent program → (left : ℕ) → Quiet left → (m : machine.State) (s : State) (i : ℕ) (t : State) (o : Option Statement) → Stands m s → m.steps + suc left ≡ n → slice_get program.statements m.statement ≡ o → run image i s ≡ On t → Calls image 3 t → ⊥
+  quiet_more : prints ≡ false → (left : ℕ) → Quiet left → (m : machine.State) (s : State) (i : ℕ) (t : State) (o : Option Statement) → Stands m s → m.steps + suc left ≡ n → slice_get program.statements m.statement ≡ o → run image i s ≡ On t → Calls image 3 t → ⊥
   quiet_more hush left all m s i t None st count is r h = quiet_past m s t i st is r h
   quiet_more hush left all m s i t (Some x) st count is r h =
-      quiet_made left all m s i t x (make_step program parameters x m) (silent_at hush m.statement x is) st count r h is refl (carries.statement n m s x small is st.valid (omega arith) st.pc st.stands)
+      quiet_made left all m s i t x (make_step program parameters x m) hush st count r h is refl (carries.statement n m s x small is st.valid (omega arith) st.pc st.stands)
 
-  quiet : IsSilent program → (left : ℕ) → Quiet left
+  quiet : prints ≡ false → (left : ℕ) → Quiet left
   quiet hush zero = λ m s i t st count r h. quiet_zero m s i t (slice_get program.statements m.statement) st count refl r h
   quiet hush (suc left) = λ m s i t st count r h. quiet_more hush left (quiet hush left) m s i t (slice_get program.statements m.statement) st count refl r h
 
@@ -327,7 +325,7 @@ module _ (image : Image) (program : Program) (parameters : Parameters) (last : �
             let same : met image (suc i) s0 ≡ met image (suc i - suc c.more) begins.0 = w.1 ∙ ap (λ xs. xs ++ met image (suc i - suc c.more) begins.0) met_first in
             subst (λ xs. Matched m0 (length xs) t) (sym same) rest
 
-    silent : IsSilent program → (i : ℕ) (t : State) → run image i s0 ≡ On t → Calls image 3 t → ⊥
+    silent : prints ≡ false → (i : ℕ) (t : State) → run image i s0 ≡ On t → Calls image 3 t → ⊥
     silent hush i t r h = elim (cases_lt i (suc begins.1.more)) [ inl lt ↦ quiet_way false 2000 s0 t (On begins.0) begins.1 i refl lt r h | inr le ↦ later le ]
       where
         later : suc begins.1.more ≤ i → ⊥
@@ -376,7 +374,7 @@ module _ (image : Image) (program : Program) (parameters : Parameters) (last : �
     unfolding first_state
     paced_begins = (suc begins.1.more, omega arith, begins.1.soon, (begins.0, begins.1.comes, begins.2))
 
-    made_within : (m : machine.State) (t : State) (st : Statement) (w : Step) → Stands m t → m.steps < n → slice_get program.statements m.statement ≡ Some st → make_step program parameters st m ≡ w → Makes image settings last n (writes_records st.name) (cost program parameters st m) t w → Within image (cost program parameters st m) t (Arrives image last)
+    made_within : (m : machine.State) (t : State) (st : Statement) (w : Step) → Stands m t → m.steps < n → slice_get program.statements m.statement ≡ Some st → make_step program parameters st m ≡ w → Makes image settings last n prints (cost program parameters st m) t w → Within image (cost program parameters st m) t (Arrives image last)
     made_within m t st (Ends e out) stands some is does c = (suc c.more, omega arith, c.soon, subst (Arrives image last) (sym c.comes) tt)
     made_within m t st (Goes m') stands some is does (u, c, pc, rep) =
         let kept = steady.keeps st m m' is stands.valid (omega arith) does in
@@ -417,21 +415,21 @@ not_fetch (Some (UnitFault k unit)) pc = λ h. absurd (cc)
 not_fetch (Some Budget) pc = λ h. absurd (cc)
 not_fetch (Some Memory) pc = λ h. absurd (cc)
 
-runs : (image : Image) (program : Program) (parameters : Parameters) (last : ℕ) → IsSteady program parameters → IsImageOf image program parameters.settings → CarriesOut image program parameters last → RunsAlike image program parameters
+runs : (image : Image) (program : Program) (parameters : Parameters) (last : ℕ) (prints : Bool) → IsSteady program parameters → IsImageOf image program parameters.settings → CarriesOut image program parameters last prints → RunsAlike image program parameters
 unfolding emulation
-runs image program parameters last steady of carries = λ tapes n small. whole image program parameters last steady of carries n small tapes
+runs image program parameters last prints steady of carries = λ tapes n small. whole image program parameters last steady of prints carries n small tapes
 
 pub law : LawOfInstalledImages
-law image program parameters last steady of carries = record {
+law image program parameters last prints steady of carries hush = record {
   last = last;
-  alike = runs image program parameters last steady of carries;
-  inside = λ tapes n pc small e. not_fetch (machine_run program parameters tapes n).end pc (sym (runs image program parameters last steady of carries tapes n small).end ∙ e);
-  silent = λ hush tapes n i t c h. silent image program parameters last steady of carries n c.0 tapes hush i t c.1 h;
+  alike = runs image program parameters last prints steady of carries;
+  inside = λ tapes n pc small e. not_fetch (machine_run program parameters tapes n).end pc (sym (runs image program parameters last prints steady of carries tapes n small).end ∙ e);
+  silent = λ still tapes n i t c h. silent image program parameters last steady of prints carries n c.0 tapes (hush still) i t c.1 h;
   paced = record {
-    begins = λ tapes n small. paced_begins image program parameters last steady of carries n small tapes;
-    statement = λ tapes n i k t c. paced_statement image program parameters last steady of carries n c.0 tapes i k t c.1;
-    bound = λ tapes n i k t c. paced_bound image program parameters last steady of carries n c.0 tapes i k t c.1;
-    past = λ tapes n i t c. paced_past image program parameters last steady of carries n c.0 tapes i t c.1;
+    begins = λ tapes n small. paced_begins image program parameters last steady of prints carries n small tapes;
+    statement = λ tapes n i k t c. paced_statement image program parameters last steady of prints carries n c.0 tapes i k t c.1;
+    bound = λ tapes n i k t c. paced_bound image program parameters last steady of prints carries n c.0 tapes i k t c.1;
+    past = λ tapes n i t c. paced_past image program parameters last steady of prints carries n c.0 tapes i t c.1;
   };
-  follows = λ tapes n i t c. matches image program parameters last steady of carries n c.0 tapes i t c.1;
+  follows = λ tapes n i t c. matches image program parameters last steady of prints carries n c.0 tapes i t c.1;
 }

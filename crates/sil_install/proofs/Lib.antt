@@ -1,5 +1,14 @@
 mod Counts
 mod Alike
 mod Entries
+mod FirstMemory
+mod Stack
+mod Slots
+mod Keeping
+mod Carrying
+mod Standing
+mod First
+mod Join
+mod Expanding
 mod TableBytes
 mod Whole

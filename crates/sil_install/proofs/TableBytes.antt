@@ -11,9 +11,9 @@ use Rattle.sil_model.specs.declared.table.Entry.{Entry}
 use Rattle.sil_model.specs.declared.table.Table.{Table}
 use Rattle.sil_model.specs.WellFormed.{GoesWithin, IsEntry, IsTable}
 use Rattle.image_file.specs.Image.{entry_fits, entries_fit}
-use Rattle.rv_emit.specs.Parts.{table_entry_part, table_part}
+use Rattle.rv_operations.specs.Tables.{table_entry_part, table_part}
 use Rattle.sil_install.specs.TableBytes.{entry_bytes, bytes_of}
-use Rattle.rv_emit.proofs.FirstMemory.{length-tables, long_tables}
+use Rattle.sil_install.proofs.FirstMemory.{length-tables, long_tables}
 
 -- ---- parts one after another
 

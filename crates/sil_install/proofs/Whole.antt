@@ -7,25 +7,22 @@ use Rattle.std.specs.Prelude.{sum_by, Result, Ok, Err, IfOk}
 use Rattle.std.specs.Global.{Vec}
 use Rattle.layout_params.specs.declared.cell.Cell.{Cell}
 use Rattle.layout_params.specs.declared.cell.Cell.TheVariants.{Descr, Chars}
-use Rattle.layout_params.specs.Sizes.{packed_16, flag_limit, value_limit}
 use Rattle.layout_params.specs.Packing.{packing, FitsFields}
 use Rattle.layout_params.specs.Parameters.{Settings, Parameters}
 use Rattle.sil_macros.specs.declared.names.Macro.{Macro}
 use Rattle.sil_model.specs.declared.program.Program.{Program}
-use Rattle.sil_model.specs.Memory.{FitsCell}
 use Rattle.layout_params.specs.Areas.{all_cells}
-use Rattle.sil_model.specs.Start.{limits_of}
-use Rattle.sil_model.specs.Valid.{LawOfSteps}
+use Rattle.sil_model.specs.WellFormed.{IsWellFormed}
 use Rattle.image_file.specs.Image.{Image, IsImage, image_of, entry_of}
 use Rattle.sil_model.specs.CellWords.{kind_of}
-use Rattle.rv_emit.specs.Parts.{IsImageOf, table_part}
-use Rattle.rv_emit.specs.Code.{last_place}
-use Rattle.rv_emit.specs.Emits.{CanEmit, Carries, FitsImage}
-use Rattle.rv_emit.proofs.FirstMemory.{length-packed, fits_all_static}
+use Rattle.rv_operations.specs.Tables.{table_part}
+use Rattle.rv_emit.specs.Parts.{IsImageOf}
+use Rattle.rv_emit.specs.Emits.{FitsImage}
+use Rattle.sil_install.proofs.FirstMemory.{length-packed, fits_all_static, fits_fields}
 use Rattle.image_file.specs.Spelling.{spelling}
 use Rattle.sil_install.proofs.TableBytes.{AreTableBytes, tables_fit}
 use Rattle.sil_install.specs.Installed.{Behaves, IsInstalled}
-use Rattle.sil_install.proofs.Alike.{law}
+use Rattle.sil_install.specs.Emission.{BehaveAs}
 
 -- ---- entries
 
@@ -64,16 +61,8 @@ length-texts texts = length-flat_map (λ text. text) texts
 
 -- ---- fields
 
-field_fits : (settings : Settings) (cell : Cell) → settings.sizes ≡ packed_16 → FitsCell (limits_of settings) cell → FitsFields settings.sizes cell
-field_fits settings (Descr d) standard h =
-    let f : d.f ≤ flag_limit packed_16 = subst (λ s. d.f ≤ flag_limit s) standard h.1 in
-    let v : d.v ≤ value_limit packed_16 = subst (λ s. d.v ≤ value_limit s) standard h.2 in
-    subst (λ s. FitsFields s (Descr d)) (sym standard) (omega arith, omega arith)
-field_fits settings (Chars chars) standard h = tt
-
-pub fields_fit : (program : Program) (settings : Settings) → CanEmit program settings → All (FitsFields settings.sizes) program.cells
-fields_fit program settings can k d lt =
-    field_fits settings (get_or program.cells k d) can.standard (can.well_formed.cells k d lt)
+pub fields_fit : (program : Program) (settings : Settings) → IsWellFormed program settings → All (FitsFields settings.sizes) program.cells
+fields_fit program settings good k d lt = fits_fields settings good.legal.layout (get_or program.cells k d) (good.cells k d lt)
 
 -- ---- the whole
 
@@ -89,7 +78,7 @@ pub record Gathered (program : Program) (settings : Settings) (entries : List (�
   pub marks : kinds ≡ map kind_of program.cells
   pub tabled : tables ≡ flat_map table_part program.tables
 
-module _ (program : Program) (parameters : Parameters) (can : CanEmit program parameters.settings) (entries : List (ℕ × ℕ × Macro)) (words places constants cells kinds tables : List ℕ) (g : Gathered program parameters.settings entries words places constants cells kinds tables) where
+module _ (program : Program) (parameters : Parameters) (good : IsWellFormed program parameters.settings) (entries : List (ℕ × ℕ × Macro)) (words places constants cells kinds tables : List ℕ) (g : Gathered program parameters.settings entries words places constants cells kinds tables) where
   abbrev settings : Settings
   settings = parameters.settings
 
@@ -103,22 +92,21 @@ module _ (program : Program) (parameters : Parameters) (can : CanEmit program pa
   marked = ap length g.marks ∙ length-map program.cells kind_of
 
   packed : length cells ≡ length program.cells * settings.sizes.descr
-  packed =
-      ap length g.bytes ∙ ap (λ z. length (flat_map (packing z) program.cells)) can.standard ∙ length-packed settings can.standard program.cells (fits_all_static settings can.standard program.cells can.well_formed.cells) ∙ ap (λ z. length program.cells * z.descr) (sym can.standard)
+  packed = ap length g.bytes ∙ length-packed settings good.legal.layout program.cells (fits_all_static settings good.legal.layout program.cells good.cells)
 
   table_bytes : AreTableBytes tables
-  table_bytes = tables_fit program.tables tables can.well_formed.table_count can.well_formed.tables g.tabled
+  table_bytes = tables_fit program.tables tables good.table_count good.tables g.tabled
 
   pub is_image : IsImage image
   is_image = record {
-    settings = can.well_formed.legal;
-    statements = omega (arith, length-map entries entry_of, count, can.well_formed.statements);
+    settings = good.legal;
+    statements = omega (arith, length-map entries entry_of, count, good.statements);
     cards = cards_fit entries g.range;
     few_words = g.fits.few;
     some_words = g.fits.some;
     wide_words = g.fits.wide;
-    constants = omega (arith, ap length g.texts, length-texts program.formats, can.well_formed.format_bytes);
-    cell_count = subst (λ k. all_cells settings k ≤ 1048576) (sym marked) can.well_formed.cell_count;
+    constants = omega (arith, ap length g.texts, length-texts program.formats, good.format_bytes);
+    cell_count = subst (λ k. all_cells settings k ≤ 1048576) (sym marked) good.cell_count;
     table_bytes = table_bytes.few;
     whole_tables = table_bytes.whole;
     places = g.fits.rise (map entry_of entries) (places_of entries ∙ g.at);
@@ -138,9 +126,8 @@ module _ (program : Program) (parameters : Parameters) (can : CanEmit program pa
     tables = g.tabled;
   }
 
-  pub behaves : LawOfSteps → Carries program parameters words places (last_place program parameters.settings) → Behaves image program parameters
-  behaves steady carries =
-      law image program parameters (last_place program parameters.settings) (steady program parameters can.well_formed) is_of (carries image is_of refl (places_of entries ∙ g.at))
+  pub behaves : BehaveAs program parameters words places → Behaves image program parameters
+  behaves so = so image is_of refl (places_of entries ∙ g.at)
 
 -- the bytes of such an image are installed
 pub installed : {E : Type 0} (program : Program) (parameters : Parameters) (image : Image) (r : Result (Vec ℕ) E) → IsImage image → IsImageOf image program parameters.settings → Behaves image program parameters → IfOk r (λ b. b.items ≡ spelling image) → IfOk r (λ b. IsInstalled b.items program parameters)

@@ -22,7 +22,8 @@ use Rattle.rv_emulate.specs.States.{State, Outcome, On, Ended, start, steps_left
 use Rattle.rv_emulate.specs.Runs.{run, met, entry_at, emulation, budget}
 use Rattle.rv_emulate.specs.Ways.{Calls}
 use Rattle.rv_emit.specs.Represents.{Represents}
-use Rattle.rv_emit.specs.Ways.{place, as_end}
+use Rattle.rv_emit.specs.Ways.{place}
+use Rattle.rv_operations.specs.Does.{as_end}
 
 -- the same end, equal tapes and equal lists of statements
 pub record SameRun (r : Run CpuEnd) (q : Run End) : Type 0 where

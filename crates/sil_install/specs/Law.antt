@@ -1,7 +1,8 @@
--- The law of installed images: an image whose code carries out each statement behaves as the program.
-use Rattle.std.specs.Prelude.{ℕ}
+-- The law of installed images: an image whose code carries out each statement, and makes call 3 for no program that is silent, behaves as the program.
+use Rattle.std.specs.Prelude.{◌≡◌, ℕ, Bool, false}
 use Rattle.layout_params.specs.Parameters.{Parameters}
 use Rattle.sil_model.specs.declared.program.Program.{Program}
+use Rattle.sil_model.specs.Prints.{IsSilent}
 use Rattle.sil_model.specs.Valid.{IsSteady}
 use Rattle.image_file.specs.Image.{Image}
 use Rattle.rv_emit.specs.Parts.{IsImageOf}
@@ -10,4 +11,4 @@ use Rattle.sil_install.specs.Installed.{Behaves}
 
 abbrev pub LawOfInstalledImages : Type 0
 LawOfInstalledImages =
-    (image : Image) (program : Program) (parameters : Parameters) (last : ℕ) → IsSteady program parameters → IsImageOf image program parameters.settings → CarriesOut image program parameters last → Behaves image program parameters
+    (image : Image) (program : Program) (parameters : Parameters) (last : ℕ) (prints : Bool) → IsSteady program parameters → IsImageOf image program parameters.settings → CarriesOut image program parameters last prints → (IsSilent program → prints ≡ false) → Behaves image program parameters

@@ -1,3 +1,4 @@
 pub mod Installed
 pub mod Law
+pub mod Emission
 pub mod TableBytes

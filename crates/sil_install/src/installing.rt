@@ -2,27 +2,29 @@
 ghost use Rattle.std.specs.Prelude.{◌≡◌, IfOk};
 ghost use Rattle.image_file.specs.Image.{IsImage};
 ghost use Rattle.rv_emit.specs.Parts.{IsImageOf};
-ghost use Rattle.rv_emit.specs.Emits.{CanEmit};
+ghost use Rattle.sil_model.specs.Built.{AreBuilt};
+ghost use Rattle.sil_model.specs.WellFormed.{IsWellFormed};
 ghost use Rattle.sil_install.specs.Installed.{Behaves, IsInstalled};
 
 use crate::parts::{entries, kinds, pack_cells};
 use crate::tables::table_bytes;
+use crate::words::program_words;
 use image_file::{Image, write_image};
 use layout_params::Params;
-use rv_emit::{Emitted, emit};
-use sil_model::{Program, law_of_steps};
+use rv_emit::Emitted;
+use sil_model::Program;
 use std::alloc::{AllocError, Global};
 
 /// The image of a program, which behaves as the program.
 fn image_of(alloc: Global, program: &Program, params: &Params) -> Result<Image, AllocError>
-    requires { CanEmit program.now params.now.settings }
+    requires well_formed { IsWellFormed program.now params.now.settings }
+    requires built { AreBuilt program.now }
     ensures is_image { IfOk result IsImage }
     ensures of { IfOk result (λ i. IsImageOf i program.now params.now.settings) }
     ensures behaves { IfOk result (λ i. Behaves i program.now params.now) }
 {
-    law_of_steps();
     let cells = program.cells.items();
-    let emitted = emit(alloc, program, params)?;
+    let emitted = program_words(alloc, program, params)?;
     let entries = entries(alloc, program.statements.items(), emitted.places.items())?;
     let bytes = pack_cells(alloc, params.numbers(), cells)?;
     let kinds = kinds(alloc, cells)?;
@@ -30,6 +32,7 @@ fn image_of(alloc: Global, program: &Program, params: &Params) -> Result<Image, 
     let Emitted {
         words,
         places: _,
+        ops: _,
         constants,
     } = emitted;
     match Image::new(
@@ -48,7 +51,8 @@ fn image_of(alloc: Global, program: &Program, params: &Params) -> Result<Image, 
 
 /// The bytes of an image that is installed for a program. The only error is want of memory.
 pub fn install(alloc: Global, program: &Program, params: &Params) -> Result<Vec<u8>, AllocError>
-    requires { CanEmit program.now params.now.settings }
+    requires well_formed { IsWellFormed program.now params.now.settings }
+    requires built { AreBuilt program.now }
     ensures { IfOk result (λ bytes. IsInstalled bytes.items program.now params.now) }
 {
     let image = image_of(alloc, program, params)?;

@@ -5,6 +5,7 @@ mod installing;
 mod law;
 mod parts;
 mod tables;
+mod words;
 
 pub use installing::install;
 pub use law::law_of_installed_images;

@@ -2,7 +2,8 @@
 ghost use Rattle.std.specs.Prelude.{◌≡◌, ◌++◌, IfOk, OnOk};
 ghost use Rattle.std.specs.List.{flat_map};
 ghost use Rattle.sil_base.specs.Bytes.{low_bytes};
-ghost use Rattle.rv_emit.specs.Parts.{action_number, next_table, put_flag, put_value};
+ghost use Rattle.sil_micro.specs.TableWords.{action_number, next_table, puts};
+ghost use Rattle.rv_operations.specs.Tables.{put_value};
 ghost use Rattle.sil_install.specs.TableBytes.{entry_bytes, bytes_of};
 
 use sil_model::{Action, Entry, Table};
@@ -33,7 +34,7 @@ fn next_table(action: Action) -> u16
 
 /// Whether there is a PUT.
 fn put_flag(put: Option<i64>) -> u8
-    ensures { result ≡ put_flag put }
+    ensures { result ≡ puts put }
 {
     match put {
         Some(_) => 1,
@@ -60,7 +61,7 @@ fn put_action(bytes: &mut Vec<u8>, action: Action) -> Result<(), AllocError>
 
 /// Appends the byte that tells whether there is a PUT.
 fn put_has_put(bytes: &mut Vec<u8>, put: Option<i64>) -> Result<(), AllocError>
-    ensures { OnOk result (bytes.new.items ≡ bytes.old.items ++ low_bytes 1 (put_flag put)) }
+    ensures { OnOk result (bytes.new.items ≡ bytes.old.items ++ low_bytes 1 (puts put)) }
 {
     bytes.extend_from_slice(&put_flag(put).to_le_bytes())
 }

@@ -6,8 +6,12 @@ ghost use Rattle.sil_model.specs.Prints.{writes_records};
 ghost use Rattle.sil_model.specs.Table.{calls_unit, clause};
 ghost use Rattle.sil_machine.specs.Parts.{Meets, left_by, state_of};
 
+use crate::calls::{branic, rcall, rrturn};
 use crate::parts::{Parts, Stop};
 use crate::site::Site;
+use crate::stack::{istack, pop, pstack, push, spop, spush};
+use crate::system::{init, mstime};
+use flow_clauses::{branch, load, selbra};
 use sil_base::MAX_STEPS;
 use sil_clauses::{
     acomp, acompc, adjust, aeql, aeqlc, aeqlic, chkval, decra, deql, divide, endex, getac, getd,
@@ -40,7 +44,7 @@ fn perform_on_units<U: UnitSet>(
 }
 
 /// What a statement does whose macro calls no unit.
-#[tactic(auto, unfolding(sil_model::specs::Table::clause))]
+#[tactic(auto, unfolding(sil_model::specs::Table::clause, sil_model::specs::FlowClauses::nothing, sil_model::specs::FlowClauses::trap))]
 fn perform_alone(name: Macro, site: &Site, steps: u64, parts: &mut Parts) -> Option<Flow>
     requires few { steps ≤ MAX_STEPS }
     requires alone { calls_unit name ≡ false }
@@ -53,6 +57,8 @@ fn perform_alone(name: Macro, site: &Site, steps: u64, parts: &mut Parts) -> Opt
         Macro::Aeql => aeql(site.args(), &parts.cells),
         Macro::Aeqlc => aeqlc(site.args(), &parts.cells),
         Macro::Aeqlic => aeqlic(site.args(), &parts.cells),
+        Macro::Branch => branch(site.args(), &parts.cells),
+        Macro::Branic => branic(site, &parts.cells),
         Macro::Chkval => chkval(site.args(), &parts.cells),
         Macro::Decra => decra(site.args(), &mut parts.cells),
         Macro::Deql => deql(site.args(), &parts.cells),
@@ -64,21 +70,31 @@ fn perform_alone(name: Macro, site: &Site, steps: u64, parts: &mut Parts) -> Opt
         Macro::Getsiz => getsiz(site.args(), &mut parts.cells),
         Macro::Incra => incra(site.args(), &mut parts.cells),
         Macro::Incrv => incrv(site.args(), &mut parts.cells),
+        Macro::Init => init(site, &mut parts.cells),
+        Macro::Istack => istack(site, parts),
         Macro::Lcomp => lcomp(site.args(), &parts.cells),
         Macro::Leqlc => leqlc(site.args(), &parts.cells),
+        Macro::Load => load(site.args(), &parts.cells),
         Macro::Mnsint => mnsint(site.args(), &mut parts.cells),
         Macro::Mova => mova(site.args(), &mut parts.cells),
         Macro::Movd => movd(site.args(), &mut parts.cells),
         Macro::Movdic => movdic(site.args(), &mut parts.cells),
         Macro::Movv => movv(site.args(), &mut parts.cells),
+        Macro::Mstime => mstime(site, steps, parts),
         Macro::Mult => mult(site.args(), &mut parts.cells),
         Macro::Multc => multc(site.args(), &mut parts.cells),
+        Macro::Pop => pop(site, parts),
+        Macro::Pstack => pstack(site, parts),
+        Macro::Push => push(site, parts),
         Macro::Putac => putac(site.args(), &mut parts.cells),
         Macro::Putd => putd(site.args(), &mut parts.cells),
         Macro::Putdc => putdc(site.args(), &mut parts.cells),
         Macro::Putvc => putvc(site.args(), &mut parts.cells),
+        Macro::Rcall => rcall(site, parts),
         Macro::Resetf => resetf(site.args(), &mut parts.cells),
+        Macro::Rrturn => rrturn(site, parts),
         Macro::Rsetfi => rsetfi(site.args(), &mut parts.cells),
+        Macro::Selbra => selbra(site.args(), &parts.cells),
         Macro::Setac => setac(site.args(), &mut parts.cells),
         Macro::Setav => setav(site.args(), &mut parts.cells),
         Macro::Setf => setf(site.args(), &mut parts.cells),
@@ -86,6 +102,8 @@ fn perform_alone(name: Macro, site: &Site, steps: u64, parts: &mut Parts) -> Opt
         Macro::Setsiz => setsiz(site.args(), &mut parts.cells),
         Macro::Setva => setva(site.args(), &mut parts.cells),
         Macro::Setvc => setvc(site.args(), &mut parts.cells),
+        Macro::Spop => spop(site, parts),
+        Macro::Spush => spush(site, parts),
         Macro::Subtrt => subtrt(site.args(), &mut parts.cells),
         Macro::Sum => sum(site.args(), &mut parts.cells),
         Macro::Testf => testf(site.args(), &parts.cells),
@@ -93,6 +111,19 @@ fn perform_alone(name: Macro, site: &Site, steps: u64, parts: &mut Parts) -> Opt
         Macro::Vcmpic => vcmpic(site.args(), &parts.cells),
         Macro::Veql => veql(site.args(), &parts.cells),
         Macro::Veqlc => veqlc(site.args(), &parts.cells),
+        Macro::Ordvst | Macro::Proc | Macro::Unload => Some(Flow::Next),
+        Macro::Adreal
+        | Macro::Dvreal
+        | Macro::Exreal
+        | Macro::Intrl
+        | Macro::Link
+        | Macro::Mnreal
+        | Macro::Mpreal
+        | Macro::Rcomp
+        | Macro::Realst
+        | Macro::Rlint
+        | Macro::Sbreal
+        | Macro::Spreal => Some(Flow::Trap),
         _ => None,
     }
 }

@@ -1,12 +1,16 @@
 // The abstract machine: what each macro does, steps, and runs.
 #![tactic(auto)]
 
+mod calls;
 mod dispatch;
 mod machine;
 mod parts;
+mod places;
 mod simulation;
 mod site;
+mod stack;
 mod state;
+mod system;
 mod tables;
 
 pub use machine::{Machine, Step, start};

@@ -1,5 +1,5 @@
 -- What a clause on memory leaves has the same shape, and its cells fit.
-use Rattle.std.proofs.Common.{◌≡◌, ℕ, ◌≤◌, List, Option, Some, None, ℤ, pos, negsuc, refl, subst, arith, rules}
+use Rattle.std.proofs.Common.{◌≡◌, ℕ, ◌≤◌, List, Option, Some, None, ℤ, pos, negsuc, refl, subst, ◌∙◌, arith, rules}
 use Rattle.std.proofs.Math.ListN.{length-set}
 use Rattle.std.proofs.Math.Facts.{sfits_to_z}
 use Rattle.std.specs.Prelude.{slice_get, slice_set, length, All, FitsSigned}
@@ -37,6 +37,12 @@ Keeps last m (Some (flow, m')) = LeadsWithin last flow × Follows m m'
 pub same : (m : Memory) → IsMemory m → Follows m m
 same m h = record { shape = record { limits = refl; count = refl }; is_memory = h }
 
+pub follows_on : (m m' m'' : Memory) → Follows m m' → Follows m' m'' → Follows m m''
+follows_on m m' m'' a b = record {
+  shape = record { limits = b.shape.limits ∙ a.shape.limits; count = b.shape.count ∙ a.shape.count };
+  is_memory = b.is_memory;
+}
+
 pub keeps_read : {A : Type 0} (last : ℕ) (m : Memory) (o : Option A) (f : A → MemoryEffect) → ((a : A) → o ≡ Some a → Keeps last m (f a)) → Keeps last m (o >>= f)
 unfolding Keeps
 keeps_read last m None f h = tt
@@ -50,6 +56,17 @@ pub keeps_write : (last : ℕ) (m : Memory) (o : Option Memory) → Writes m o �
 unfolding Keeps Writes
 keeps_write last m None h = tt
 keeps_write last m (Some m') h = (tt, h)
+
+keeps_on : (last : ℕ) (m m' : Memory) (o : MemoryEffect) → Follows m m' → Keeps last m' o → Keeps last m o
+unfolding Keeps
+keeps_on last m m' None a b = tt
+keeps_on last m m' (Some (flow, m'')) a b = (b.0, follows_on m m' m'' a b.1)
+
+-- a write, and what comes after it
+pub keeps_then : (last : ℕ) (m : Memory) (o : Option Memory) (f : Memory → MemoryEffect) → Writes m o → ((m' : Memory) → IsMemory m' → Keeps last m' (f m')) → Keeps last m (o >>= f)
+unfolding Keeps Writes
+keeps_then last m None f w h = tt
+keeps_then last m (Some m') f w h = keeps_on last m m' (f m') w (h m' w.is_memory)
 
 -- what is in a list where all elements are so
 pub all_at : {A : Type 0} (P : A → Type 0) (xs : List A) (i : ℕ) (x : A) → All P xs → slice_get xs i ≡ Some x → P x
@@ -76,6 +93,21 @@ pub writes_read : {A : Type 0} (m : Memory) (o : Option A) (f : A → Option Mem
 unfolding Writes
 writes_read m None f h = tt
 writes_read m (Some a) f h = h a refl
+
+writes_on : (m m' : Memory) (o : Option Memory) → Follows m m' → Writes m' o → Writes m o
+unfolding Writes
+writes_on m m' None a b = tt
+writes_on m m' (Some m'') a b = follows_on m m' m'' a b
+
+pub writes_then : (m : Memory) (o : Option Memory) (f : Memory → Option Memory) → Writes m o → ((m' : Memory) → Follows m m' → Writes m' (f m')) → Writes m (o >>= f)
+unfolding Writes
+writes_then m None f w h = tt
+writes_then m (Some m') f w h = writes_on m m' (f m') w (h m' w)
+
+-- a write that was made
+pub followed : (m m' : Memory) (o : Option Memory) → Writes m o → o ≡ Some m' → Follows m m'
+unfolding Writes
+followed m m' o w is = rw is at w
 
 -- cells that are as many and fit
 unfoldable pub Puts : Memory → Option (List Cell) → Type 0

@@ -1,9 +1,11 @@
 -- What a clause leaves is a state whose parts are valid.
-use Rattle.std.proofs.Common.{◌≡◌, ℕ, ◌≤◌, ◌<◌, ◌^◌, Some, None, ◌∙◌}
-use Rattle.std.specs.Prelude.{All, length}
+use Rattle.std.proofs.Common.{◌≡◌, ℕ, ◌≤◌, ◌<◌, ◌^◌, Option, Some, None, ℤ, refl, ◌∙◌}
+use Rattle.std.specs.Prelude.{All, Bool, true, false, if◌then◌else◌, length}
 use Rattle.layout_params.specs.Parameters.{Settings}
 use Rattle.sil_model.specs.declared.program.Program.{Program}
-use Rattle.sil_model.specs.Effects.{MemoryEffect, Effect, On, with_memory}
+use Rattle.sil_model.specs.declared.program.Flow.{Flow}
+use Rattle.sil_model.specs.Access.{◌>>=◌}
+use Rattle.sil_model.specs.Effects.{MemoryEffect, Effect, On, goes, with_memory}
 use Rattle.sil_model.specs.Fits.{bounds_of, FitsRow, IsWithin}
 use Rattle.sil_model.specs.Memory.{Memory, IsMemory}
 use Rattle.layout_params.specs.Areas.{all_cells}
@@ -29,6 +31,23 @@ Leaves program settings None = Unit {0}
 Leaves program settings (Some (On flow, t)) = LeadsWithin (length program.statements) flow × IsSound program settings t
 Leaves program settings (Some (_, t)) = Unit {0}
 
+pub leaves_read : {A : Type 0} (program : Program) (settings : Settings) (o : Option A) (f : A → Effect) → ((a : A) → o ≡ Some a → Leaves program settings (f a)) → Leaves program settings (o >>= f)
+unfolding Leaves
+leaves_read program settings None f h = tt
+leaves_read program settings (Some a) f h = h a refl
+
+pub leaves_here : (program : Program) (settings : Settings) (flow : Flow) (s : State) → LeadsWithin (length program.statements) flow → IsSound program settings s → Leaves program settings (goes flow s)
+unfolding Leaves
+leaves_here program settings flow s l v = (l, v)
+
+pub leaves_none : (program : Program) (settings : Settings) → Leaves program settings None
+unfolding Leaves
+leaves_none program settings = tt
+
+pub leaves_if : (program : Program) (settings : Settings) (b : Bool) (x y : Effect) → (b ≡ true → Leaves program settings x) → (b ≡ false → Leaves program settings y) → Leaves program settings (if b then x else y)
+leaves_if program settings true x y f g = f refl
+leaves_if program settings false x y f g = g refl
+
 pub sound_memory : (program : Program) (settings : Settings) (s : State) (m : Memory) → IsSound program settings s → Follows s.memory m → IsSound program settings (record s { memory = m })
 sound_memory program settings s m v f = record {
   memory = f.is_memory;
@@ -38,6 +57,19 @@ sound_memory program settings s m v f = record {
   tables = v.tables;
   current = v.current;
   previous = v.previous;
+}
+
+-- other memory and other tops
+pub stack_sound : (program : Program) (settings : Settings) (s : State) (m : Memory) (current previous : ℤ) → IsSound program settings s → Follows s.memory m →
+    IsTop settings (length program.cells) current → IsTop settings (length program.cells) previous → IsSound program settings (record s { memory = m; current = current; previous = previous })
+stack_sound program settings s m current previous v f c p = record {
+  memory = f.is_memory;
+  limits = f.shape.limits ∙ v.limits;
+  cells = f.shape.count ∙ v.cells;
+  table_count = v.table_count;
+  tables = v.tables;
+  current = c;
+  previous = p;
 }
 
 -- a clause on memory leaves the other parts as they were

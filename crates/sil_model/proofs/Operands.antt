@@ -1,5 +1,5 @@
 -- Operands within their bounds lead to statements and fit; so do the results of arithmetic.
-use Rattle.std.proofs.Common.{◌≡◌, ℕ, ◌≤◌, ◌<◌, ◌^◌, Bool, true, false, List, Option, Some, None, ℤ, pos, negsuc, zero, suc, refl, sym, subst, arith, rules}
+use Rattle.std.proofs.Common.{◌≡◌, ℕ, ◌≤◌, Bool, true, false, List, Option, Some, None, ℤ, pos, negsuc, zero, suc, [], ◌∷◌, length, refl, subst, arith, rules}
 use Rattle.std.proofs.Math.Facts.{sfits_to_z}
 use Rattle.std.specs.Prelude.{All, FitsSigned, cond, int_lt, slice_get, int_div, ◌==◌, bit_and}
 use Rattle.std.specs.Int.{w64}
@@ -9,11 +9,12 @@ use Rattle.sil_model.specs.declared.program.Arg.{Arg}
 use Rattle.sil_model.specs.declared.program.Arg.TheVariants.{Absent, Place, Number, Flag, Goto, Table, Key, Format, Places, Gotos}
 use Rattle.sil_model.specs.declared.program.Flow.{Flow}
 use Rattle.sil_model.specs.Access.{◌>>=◌, descr_at, a_at, v_at}
-use Rattle.sil_model.specs.Arguments.{as_number, as_goto, flow_to, number_at, goto_at}
-use Rattle.sil_model.specs.ComparisonClauses.{by_order, by_equality, by_sameness, by_flags}
+use Rattle.sil_model.specs.Arguments.{as_number, as_goto, as_gotos, as_places, as_maybe_places, at_place, flow_to, number_at, goto_at, gotos_at, places_at, maybe_places_at, nth_location}
+use Rattle.sil_model.specs.ComparisonClauses.{by_order, by_sameness, by_flags}
+use Rattle.sil_model.specs.Costs.{item_count, listed, operand_count}
 use Rattle.sil_model.specs.DescriptorClauses.{integer_alone}
-use Rattle.sil_model.specs.Effects.{MemoryEffect, leads}
-use Rattle.sil_model.specs.Fits.{Bounds, IsWithin}
+use Rattle.sil_model.specs.Effects.{leads}
+use Rattle.sil_model.specs.Fits.{Bounds, IsStatement, IsWithin}
 use Rattle.sil_model.specs.Integers.{◌⊟◌, wrapped_difference, wrapped_product, in_range}
 use Rattle.sil_model.specs.IntegerClauses.{deliver, quotient}
 use Rattle.sil_model.specs.Memory.{Memory, IsMemory, FitsDescr}
@@ -59,6 +60,69 @@ found_fits b args i (Some arg) n w e is = argument_fits b arg n (all_at (IsWithi
 
 pub number_fits : (b : Bounds) (args : List Arg) (i : ℕ) (n : ℤ) → All (IsWithin b) args → number_at args i ≡ Some n → FitsSigned w64 n
 number_fits b args i n w is = found_fits b args i (slice_get args i) n w refl is
+
+-- ---- lists
+
+places_from : (b : Bounds) (o : Option Arg) (ats : List ℤ) → ((arg : Arg) → o ≡ Some arg → IsWithin b arg) → (o >>= as_places) ≡ Some ats → length ats ≤ 40
+places_from b None ats h e = cc
+places_from b (Some (Places xs)) ats h e = let few = (h (Places xs) refl).0 in let same : xs ≡ ats = same_Some xs ats e in subst (λ (l : List ℤ). length l ≤ 40) same few
+places_from b (Some _) ats h e = cc
+
+pub few_places : (b : Bounds) (args : List Arg) (i : ℕ) (ats : List ℤ) → All (IsWithin b) args → places_at args i ≡ Some ats → length ats ≤ 40
+few_places b args i ats w e = places_from b (slice_get args i) ats (λ arg is. all_at (IsWithin b) args i arg w is) e
+
+maybe_places_from : (b : Bounds) (o : Option Arg) (ats : List ℤ) → ((arg : Arg) → o ≡ Some arg → IsWithin b arg) → (o >>= as_maybe_places) ≡ Some ats → length ats ≤ 40
+maybe_places_from b None ats h e = cc
+maybe_places_from b (Some Absent) ats h e = let none : [] ≡ ats = same_Some [] ats e in subst (λ (l : List ℤ). length l ≤ 40) none (omega arith)
+maybe_places_from b (Some (Places xs)) ats h e = let few = (h (Places xs) refl).0 in let same : xs ≡ ats = same_Some xs ats e in subst (λ (l : List ℤ). length l ≤ 40) same few
+maybe_places_from b (Some _) ats h e = cc
+
+pub few_maybe_places : (b : Bounds) (args : List Arg) (i : ℕ) (ats : List ℤ) → All (IsWithin b) args → maybe_places_at args i ≡ Some ats → length ats ≤ 40
+few_maybe_places b args i ats w e = maybe_places_from b (slice_get args i) ats (λ arg is. all_at (IsWithin b) args i arg w is) e
+
+gotos_from : (b : Bounds) (o : Option Arg) (locations : List (Option ℕ)) → ((arg : Arg) → o ≡ Some arg → IsWithin b arg) → (o >>= as_gotos) ≡ Some locations → All (IsStatement b) locations
+gotos_from b None locations h e = cc
+gotos_from b (Some (Gotos ks)) locations h e = subst (All (IsStatement b)) (same_Some ks locations e) (h (Gotos ks) refl).1
+gotos_from b (Some _) locations h e = cc
+
+pub gotos_within : (b : Bounds) (args : List Arg) (i : ℕ) (locations : List (Option ℕ)) → All (IsWithin b) args → gotos_at args i ≡ Some locations → All (IsStatement b) locations
+gotos_within b args i locations w e = gotos_from b (slice_get args i) locations (λ arg is. all_at (IsWithin b) args i arg w is) e
+
+placed_within : (b : Bounds) (locations : List (Option ℕ)) (n : ℕ) (o : Option (Option ℕ)) → All (IsStatement b) locations → slice_get locations n ≡ o → IsStatement b (at_place o)
+placed_within b locations n None h is = tt
+placed_within b locations n (Some location) h is = all_at (IsStatement b) locations n location h is
+
+pub nth_within : (b : Bounds) (locations : List (Option ℕ)) (n : ℤ) → All (IsStatement b) locations → IsStatement b (nth_location locations n)
+unfolding nth_location
+nth_within b locations (negsuc n) h = tt
+nth_within b locations (pos zero) h = tt
+nth_within b locations (pos (suc n)) h = placed_within b locations n (slice_get locations n) h refl
+
+flow_leads : (b : Bounds) (location : Option ℕ) → IsStatement b location → LeadsWithin b.statements (flow_to location)
+flow_leads b None h = tt
+flow_leads b (Some k) h = omega arith
+
+pub nth_leads : (b : Bounds) (locations : List (Option ℕ)) (n : ℤ) → All (IsStatement b) locations → LeadsWithin b.statements (flow_to (nth_location locations n))
+nth_leads b locations n h = flow_leads b (nth_location locations n) (nth_within b locations n h)
+
+-- a list has no more items than all operands
+items_of : (arg : Arg) → listed (as_places arg) ≤ item_count arg
+items_of (Places ats) = omega arith
+items_of _ = omega arith
+
+maybe_items_of : (arg : Arg) → listed (as_maybe_places arg) ≤ item_count arg
+maybe_items_of (Places ats) = omega arith
+maybe_items_of _ = omega arith
+
+pub items_most : (args : List Arg) (i : ℕ) → listed (places_at args i) ≤ operand_count args
+items_most [] i = omega arith
+items_most (arg ∷ args) zero = omega (arith, items_of arg)
+items_most (arg ∷ args) (suc i) = omega (arith, items_most args i)
+
+pub maybe_items_most : (args : List Arg) (i : ℕ) → listed (maybe_places_at args i) ≤ operand_count args
+maybe_items_most [] i = omega arith
+maybe_items_most (arg ∷ args) zero = omega (arith, maybe_items_of arg)
+maybe_items_most (arg ∷ args) (suc i) = omega (arith, maybe_items_most args i)
 
 chosen_leads : (last : ℕ) (c : Bool) (x y : Flow) → LeadsWithin last x → LeadsWithin last y → LeadsWithin last (cond c x y)
 chosen_leads last true x y h k = h

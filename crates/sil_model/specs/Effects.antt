@@ -38,10 +38,18 @@ Effect = Option (Way × State)
 abbrev pub goes : Flow → State → Effect
 goes flow s = Some (On flow, s)
 
--- a clause that looks at its operands and the memory alone
+-- a clause that looks at its operands and the memory alone, and one that looks at its site and the memory
 abbrev pub with_memory : State → MemoryEffect → Effect
 with_memory s None = None
 with_memory s (Some (flow, m)) = goes flow (record s { memory = m })
 
 abbrev pub on_memory : (List Arg → Memory → MemoryEffect) → Site → State → Effect
 on_memory f site s = with_memory s (f site.args s.memory)
+
+abbrev pub on_site : (Site → Memory → MemoryEffect) → Site → State → Effect
+on_site f site s = with_memory s (f site s.memory)
+
+-- where a call goes and the memory that it leaves; nothing is said of the memory where it is undefined
+abbrev pub after_flow : Option Flow → Memory → MemoryEffect
+after_flow None m = None
+after_flow (Some flow) m = Some (flow, m)

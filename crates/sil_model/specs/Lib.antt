@@ -8,10 +8,14 @@ pub mod Arguments
 pub mod Sites
 pub mod States
 pub mod Effects
-pub mod FlowClauses
+pub mod Specifiers
+pub mod Lists
 pub mod DescriptorClauses
 pub mod ComparisonClauses
 pub mod IntegerClauses
+pub mod FlowClauses
+pub mod StackClauses
+pub mod CallClauses
 pub mod Table
 pub mod Start
 pub mod Machine

@@ -2,6 +2,7 @@
 // of states, steps and runs.
 #![tactic(auto)]
 
+mod arguments;
 mod built;
 mod cells;
 mod end;
@@ -9,13 +10,18 @@ mod fields;
 mod laws;
 mod limits;
 mod program;
+mod specifier;
 mod table;
 
+pub use arguments::{
+    flag, goto, goto_list, maybe_number, maybe_place, maybe_place_list, number, place, place_list,
+};
 pub use built::{BUILT, is_built};
 pub use cells::Cells;
 pub use end::End;
 pub use fields::{a_field, f_field, set_a_field, set_f_field, set_v_field, v_field};
 pub use laws::{law_of_access, law_of_runs, law_of_steps, law_of_units};
 pub use limits::{Limits, limits_of};
-pub use program::{Arg, Flow, Program, Specials, Statement, flag, goto, number, place};
+pub use program::{Arg, Flow, Program, Specials, Statement};
+pub use specifier::{Specifier, set_spec, spec};
 pub use table::{Action, Entry, Table};

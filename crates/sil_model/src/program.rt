@@ -1,8 +1,5 @@
 // Programs: statements with their operands resolved, and the data that they start with.
 
-ghost use Rattle.std.specs.Prelude.{◌≡◌};
-ghost use Rattle.sil_model.specs.Arguments.{place_at, number_at, flag_at, goto_at};
-
 use crate::table::{Action, Table};
 use layout_params::Cell;
 use sil_base::{Items, Record};
@@ -63,45 +60,4 @@ pub enum Flow {
     To(u32),
     Exit(u8),
     Trap,
-}
-
-/// The place that the operand of a number is, counted from 0.
-pub fn place(args: &[Arg], i: usize) -> Option<i64>
-    ensures { result ≡ place_at args.now i }
-{
-    match args.get(i)? {
-        Arg::Place(at) => Some(*at),
-        _ => None,
-    }
-}
-
-/// The number that the operand of a number is, counted from 0.
-pub fn number(args: &[Arg], i: usize) -> Option<i64>
-    ensures { result ≡ number_at args.now i }
-{
-    match args.get(i)? {
-        Arg::Number(n) => Some(*n),
-        _ => None,
-    }
-}
-
-/// The flags that the operand of a number is.
-pub fn flag(args: &[Arg], i: usize) -> Option<u32>
-    ensures { result ≡ flag_at args.now i }
-{
-    match args.get(i)? {
-        Arg::Flag(flags) => Some(*flags),
-        _ => None,
-    }
-}
-
-/// Where the location that the operand of a number is leads.
-pub fn goto(args: &[Arg], i: usize) -> Option<Flow>
-    ensures { result ≡ goto_at args.now i }
-{
-    match args.get(i)? {
-        Arg::Goto(Some(k)) => Some(Flow::To(*k)),
-        Arg::Goto(None) => Some(Flow::Next),
-        _ => None,
-    }
 }

@@ -1,14 +1,18 @@
-use Rattle.std.proofs.Common.{◌≡◌, length, ◌∙◌, sym, ap, arith, subst, refl}
-use Rattle.std.proofs.lemmas.Option.{slice_get_read}
-use Rattle.std.specs.Prelude.{slice_get}
+use Rattle.std.proofs.Common.{◌≡◌, length, ap, arith, subst}
 use Rattle.macro_expand.proofs.Costs.{makes_step}
-use Rattle.macro_expand.proofs.Growing.{SoFar}
+use Rattle.macro_expand.proofs.Growing.{statement_at, SoFar}
+use Rattle.macro_expand.proofs.Locating.{located}
 use Rattle.macro_expand.proofs.Running.{runs_to}
 use Rattle.macro_expand.proofs.Stepping.{step, whole}
 use Rattle.macro_expand.proofs.expansion.expand_all.Goals as goal
 
+pub expand-requires-clause-locations : goal.expand-requires-clause-locations
+expand-requires-clause-locations c =
+    located c.args.program.now c.args.params.now.settings c.loop-k.k (length c.loop-k.code.entries) c.index-statements-k.result c.requires.well_formed.rows
+    (statement_at c.args.program.now c.items-statements.result.now c.loop-k.k c.index-statements-k.result c.items-statements.ensures c.loop-k-test.true c.index-statements-k.is) c.loop-k.invariant.statements
+
 pub loop-k-preserved : goal.loop-k-preserved
-loop-k-preserved c = step c.args.program.now c.loop-k.k c.loop-k.code c.expand.new.code c.index-statements-k.result c.loop-k.invariant (omega (arith, c.loop-k-test.true, ap length c.items-statements.ensures)) (ap (λ l. slice_get l c.loop-k.k) (sym c.items-statements.ensures) ∙ slice_get_read c.items-statements.result.now (length c.items-statements.result.now) c.loop-k.k c.index-statements-k.result refl c.loop-k-test.true c.index-statements-k.is) c.in_ok-expand.ensures
+loop-k-preserved c = step c.args.program.now c.loop-k.k c.loop-k.code c.expand.new.code c.index-statements-k.result c.loop-k.invariant (omega (arith, c.loop-k-test.true, ap length c.items-statements.ensures)) (statement_at c.args.program.now c.items-statements.result.now c.loop-k.k c.index-statements-k.result c.items-statements.ensures c.loop-k-test.true c.index-statements-k.is) c.in_ok-expand.ensures
 
 pub returns-clause-expansion : goal.returns-clause-expansion
 returns-clause-expansion c =

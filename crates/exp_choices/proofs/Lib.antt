@@ -1,0 +1,4 @@
+pub mod Leads
+pub mod Orders
+pub mod Sums
+pub mod Products

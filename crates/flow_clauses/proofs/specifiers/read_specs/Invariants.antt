@@ -1,0 +1,13 @@
+use Rattle.std.proofs.Common.{◌≡◌, length, take}
+use Rattle.std.specs.Prelude.{All}
+use Rattle.sil_model.specs.Lists.{all_specs_read}
+use Rattle.sil_model.specs.Specifiers.{FitsSpec}
+use Rattle.flow_clauses.proofs.Turns.{ReadSoFar}
+use Rattle.flow_clauses.proofs.specifiers.read_specs.Given as goal
+
+abbrev pub invariant-loop-i : goal.invariant-loop-i
+invariant-loop-i l = record {
+  reads : ReadSoFar all_specs_read l.cells l.places l.values l.i;
+  fits : All (FitsSpec l.cells.limits) (take l.i l.values);
+  size : length l.values ≡ 40;
+}
