@@ -50,7 +50,8 @@ fn put_statement(out: &mut Vec<u8>, row: &Row, apart: bool) -> Result<(), AllocE
         }
         put_operand(out, op, apart)?;
     }
-    out.push(b'\n')
+    out.push(b'\n')?;
+    Ok(())
 }
 
 /// What a cell holds, where these are the cells that aren't zero.
@@ -79,7 +80,8 @@ fn put_descriptor(
     decimal(out, i128::from(f))?;
     out.push(b',')?;
     decimal(out, i128::from(v))?;
-    out.push(b'\n')
+    out.push(b'\n')?;
+    Ok(())
 }
 
 /// The cards of a row's cells.
@@ -106,7 +108,10 @@ pub fn memory_source(alloc: Global, row: &Row) -> Result<Vec<u8>, AllocError> {
     let mut out = Vec::new(alloc);
     put_statement(&mut out, row, false)?;
     put_text(&mut out, b"L DEQL D0,W0,BAD\n DEQL D1,W1,BAD\n")?;
-    put_text(&mut out, b" DEQL D2,W2,BAD\n DEQL D3,W3,BAD\n ENDEX Z\nBAD ENDEX ONE\n")?;
+    put_text(
+        &mut out,
+        b" DEQL D2,W2,BAD\n DEQL D3,W3,BAD\n ENDEX Z\nBAD ENDEX ONE\n",
+    )?;
     put_cells(&mut out, row)?;
     for cell in 0..CELLS {
         let kept = held(row.before, cell).unwrap_or((0, 0, 0));
