@@ -21,9 +21,11 @@ fn put_number(out: &mut Vec<u8>, n: i64) -> Result<(), AllocError> {
     put_text(out, b"-1")
 }
 
-/// An operand; a location is the label of the statement that stands one further, or one name for all.
+/// An operand. A cell that a row doesn't have is no address; a location is the label of its
+/// statement, or one label for all.
 fn put_operand(out: &mut Vec<u8>, op: Op, apart: bool) -> Result<(), AllocError> {
     match op {
+        Op::D(cell) if cell >= CELLS => put_text(out, b"0"),
         Op::D(cell) => {
             put_text(out, b"D0+DESCR*")?;
             decimal(out, i128::from(cell))
