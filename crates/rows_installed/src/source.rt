@@ -21,9 +21,11 @@ fn put_number(out: &mut Vec<u8>, n: i64) -> Result<(), AllocError> {
     put_text(out, b"-1")
 }
 
-/// An operand; a location is the label of the statement that stands one further, or one name for all.
+/// An operand. A cell that a row doesn't have is no address; a location is the label of its
+/// statement, or one label for all.
 fn put_operand(out: &mut Vec<u8>, op: Op, apart: bool) -> Result<(), AllocError> {
     match op {
+        Op::D(cell) if cell >= CELLS => put_text(out, b"0"),
         Op::D(cell) => {
             put_text(out, b"D0+DESCR*")?;
             decimal(out, i128::from(cell))
@@ -50,7 +52,8 @@ fn put_statement(out: &mut Vec<u8>, row: &Row, apart: bool) -> Result<(), AllocE
         }
         put_operand(out, op, apart)?;
     }
-    out.push(b'\n')
+    out.push(b'\n')?;
+    Ok(())
 }
 
 /// What a cell holds, where these are the cells that aren't zero.
@@ -79,7 +82,8 @@ fn put_descriptor(
     decimal(out, i128::from(f))?;
     out.push(b',')?;
     decimal(out, i128::from(v))?;
-    out.push(b'\n')
+    out.push(b'\n')?;
+    Ok(())
 }
 
 /// The cards of a row's cells.
@@ -106,7 +110,10 @@ pub fn memory_source(alloc: Global, row: &Row) -> Result<Vec<u8>, AllocError> {
     let mut out = Vec::new(alloc);
     put_statement(&mut out, row, false)?;
     put_text(&mut out, b"L DEQL D0,W0,BAD\n DEQL D1,W1,BAD\n")?;
-    put_text(&mut out, b" DEQL D2,W2,BAD\n DEQL D3,W3,BAD\n ENDEX Z\nBAD ENDEX ONE\n")?;
+    put_text(
+        &mut out,
+        b" DEQL D2,W2,BAD\n DEQL D3,W3,BAD\n ENDEX Z\nBAD ENDEX ONE\n",
+    )?;
     put_cells(&mut out, row)?;
     for cell in 0..CELLS {
         let kept = held(row.before, cell).unwrap_or((0, 0, 0));

@@ -18,7 +18,8 @@ pub const FAR: Sizes = [40, 16, 3, 1, 32, 8];
 static NAMES: [&[u8]; 6] = [b"DESCR ", b"AOFF ", b"FOFF ", b"FLEN ", b"VOFF ", b"VLEN "];
 
 /// The other parameters.
-const OTHERS: &[u8] = b"FNC 1\nMARK 2\nPTR 4\nSTTL 8\nTTL 16\nSTSIZE 64\nDYNSIZ 100\nOBSIZ 256\nUNITI 5\nUNITO 6\nUNITP 7\nDATE 01/01/70\n";
+const OTHERS: &[u8] =
+    b"FNC 1\nMARK 2\nPTR 4\nSTTL 8\nTTL 16\nSTSIZE 64\nDYNSIZ 100\nOBSIZ 256\nUNITI 5\nUNITO 6\nUNITP 7\nDATE 01/01/70\n";
 
 /// The text of the parameters with this layout.
 pub fn params_of(alloc: Global, sizes: &Sizes) -> Result<Vec<u8>, AllocError> {

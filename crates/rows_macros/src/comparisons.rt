@@ -285,7 +285,14 @@ pub static COMPARISONS: [Row; 44] = [
     },
     Row {
         name: Macro::Vcmpic,
-        ops: &[D(0), N(64), D(1), L(Some(1)), L(Some(2)), L(Some(3))],
+        ops: &[
+            D(0),
+            N(16_777_216),
+            D(1),
+            L(Some(1)),
+            L(Some(2)),
+            L(Some(3)),
+        ],
         before: &[(0, CELL + 16, 0, 0)],
         flow: None,
         after: &[],

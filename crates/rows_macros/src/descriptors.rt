@@ -228,7 +228,7 @@ pub static DESCRIPTORS: [Row; 59] = [
     },
     Row {
         name: Macro::Movdic,
-        ops: &[D(0), N(32), D(1), N(0)],
+        ops: &[D(0), N(16_777_216), D(1), N(0)],
         before: &[(0, CELL + 32, 0, 0), (1, CELL, 0, 0)],
         flow: None,
         after: &[],
@@ -264,7 +264,7 @@ pub static DESCRIPTORS: [Row; 59] = [
     Row {
         name: Macro::Putd,
         ops: &[D(0), D(1), D(2)],
-        before: &[(0, CELL + 16, 0, 0), (1, 48, 0, 0), (2, 4, 5, 6)],
+        before: &[(0, CELL + 16, 0, 0), (1, 16_777_216, 0, 0), (2, 4, 5, 6)],
         flow: None,
         after: &[],
     },

@@ -7,13 +7,12 @@ mod descriptors;
 mod integers;
 mod row;
 
+use characters::{CHARACTERS, holds_over_characters};
 pub use comparisons::COMPARISONS;
 pub use descriptors::DESCRIPTORS;
 pub use integers::INTEGERS;
-pub use row::{Op, Row};
-
-use characters::{CHARACTERS, holds_over_characters};
 use row::holds;
+pub use row::{Op, Row};
 use std::alloc::Global;
 use std::test::Fail;
 

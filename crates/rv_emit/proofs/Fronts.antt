@@ -1,5 +1,5 @@
 -- What stands before the operations, appended part by part.
-use Rattle.std.proofs.Common.{◌≡◌, ℕ, ◌+◌, List, [], ◌∷◌, ◌++◌, length, refl, sym, ap, ◌∙◌, append_assoc}
+use Rattle.std.proofs.Common.{◌≡◌, ℕ, ◌+◌, List, [], ◌++◌, length, ap, ◌∙◌, append_assoc}
 use Rattle.std.specs.Prelude.{Result, Ok, Err, OnOk}
 use Rattle.rv_isa.specs.declared.instr.Instr.{Instr}
 use Rattle.layout_params.specs.Areas.{all_cells}
@@ -23,9 +23,6 @@ then_ok (Ok x) h f = f h
 then_ok (Err e) h f = tt
 
 -- ---- the routines
-
-abbrev pub checks : Sizes → ℕ → List Instr
-checks sizes n = check_routine sizes.descr n ++ fit_routine (bits_of sizes F) sizes.descr n ++ fit_routine (bits_of sizes V) sizes.descr n ++ open_routine (bits_of sizes F) (bits_of sizes V) sizes.descr n
 
 pub routine_parts : (sizes : Sizes) (n : ℕ) (a b e f : List Instr)
     → b ≡ a ++ check_routine sizes.descr n ++ fit_routine (bits_of sizes F) sizes.descr n ++ fit_routine (bits_of sizes V) sizes.descr n ++ open_routine (bits_of sizes F) (bits_of sizes V) sizes.descr n
@@ -66,7 +63,7 @@ module _ (settings : Settings) (c : MicroCode) where
   switch_is which a b e code d count routine s n r is h g =
       let place : routine ≡ routine_of settings.sizes.descr (length c.entries) which = r ∙ ap (λ x. routine_of x count which) s ∙ ap (λ x. routine_of settings.sizes.descr x which) n in
       let first : b ≡ a ++ switch_code settings.sizes.descr (length c.entries) (routine_of settings.sizes.descr (length c.entries) which) (routine_of settings.sizes.descr (length c.entries) which + 64) =
-        h ∙ ap (λ k. a ++ k) is ∙ ap (λ x. a ++ switch_code x count routine (routine + 64)) s ∙ ap (λ x. a ++ switch_code settings.sizes.descr x routine (routine + 64)) n ∙ ap (λ x. a ++ switch_code settings.sizes.descr (length c.entries) x (x + 64)) place in
+      h ∙ ap (λ k. a ++ k) is ∙ ap (λ x. a ++ switch_code x count routine (routine + 64)) s ∙ ap (λ x. a ++ switch_code settings.sizes.descr x routine (routine + 64)) n ∙ ap (λ x. a ++ switch_code settings.sizes.descr (length c.entries) x (x + 64)) place in
       in_two a _ _ first g
 
   pub front_is : (a b e f g : List Instr) → b ≡ a ++ start_of settings c → e ≡ b ++ routines_of settings c → f ≡ e ++ switch_of settings c Entry → g ≡ f ++ switch_of settings c ReturnPart → g ≡ a ++ front_of settings c

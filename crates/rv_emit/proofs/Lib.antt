@@ -24,4 +24,3 @@ pub mod Steps
 pub mod CodeWords
 pub mod Rising
 pub mod Fronts
-pub mod Measured

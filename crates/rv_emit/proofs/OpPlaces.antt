@@ -1,5 +1,5 @@
 -- The list of the places of operations.
-use Rattle.std.proofs.Common.{◌≡◌, ℕ, zero, suc, ◌+◌, ◌-◌, ◌*◌, ◌<◌, ◌≤◌, List, [], ◌∷◌, ◌++◌, length, get_or, take, refl, sym, ap, ◌∙◌, arith, append_assoc}
+use Rattle.std.proofs.Common.{◌≡◌, ℕ, zero, suc, ◌+◌, ◌-◌, ◌<◌, ◌≤◌, List, [], ◌∷◌, ◌++◌, length, get_or, refl, sym, ap, ◌∙◌, arith, append_assoc}
 use Rattle.layout_params.specs.Parameters.{Settings}
 use Rattle.sil_micro.specs.Codes.{MicroCode}
 use Rattle.rv_emit.specs.Code.{first_op, op_place}
@@ -28,6 +28,12 @@ module _ (settings : Settings) (c : MicroCode) where
   -- the place of an operation in the list
   pub place_there : (q d : ℕ) → q ≤ length c.ops → get_or (op_places settings c) q d ≡ op_place settings c q
   place_there q d h = let z : 0 + q ≡ q = omega arith in get_from 0 (length c.ops) q d h ∙ ap (op_place settings c) z
+
+  -- none so far
+  pub no_place_yet : (places : List ℕ) → places ≡ [] → places ++ op_places_from settings c 0 (length c.ops - 0) ≡ op_places settings c
+  no_place_yet places e =
+      let n : length c.ops - 0 ≡ length c.ops = omega arith in
+      ap (λ ps. ps ++ op_places_from settings c 0 (length c.ops - 0)) e ∙ ap (op_places_from settings c 0) n
 
   -- the places so far, and one more
   pub one_place_more : (places : List ℕ) (q place : ℕ) → q < length c.ops → place ≡ op_place settings c q → places ++ op_places_from settings c q (length c.ops - q) ≡ op_places settings c → (places ++ place ∷ []) ++ op_places_from settings c (q + 1) (length c.ops - (q + 1)) ≡ op_places settings c

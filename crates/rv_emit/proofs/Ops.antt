@@ -1,5 +1,5 @@
 -- What is known of the operations of a code that can be emitted, each by its number.
-use Rattle.std.proofs.Common.{◌≡◌, ℕ, zero, suc, ◌+◌, ◌-◌, ◌^◌, ◌<◌, ◌≤◌, ◌⊎◌, inl, inr, Bool, true, false, List, [], ◌∷◌, length, get_or, take, Option, Some, None, refl, sym, ap, subst, ◌∙◌, arith}
+use Rattle.std.proofs.Common.{◌≡◌, ℕ, zero, suc, ◌-◌, ◌^◌, ◌<◌, ◌≤◌, ◌⊎◌, inl, inr, Bool, List, [], ◌∷◌, length, get_or, Some, sym, ap, subst, ◌∙◌, arith}
 use Rattle.std.proofs.lemmas.Bool.{cases_lt}
 use Rattle.std.proofs.lemmas.List.{get_or_past}
 use Rattle.std.proofs.lemmas.List.Sums.{sum_by-take-le}
@@ -18,7 +18,7 @@ use Rattle.rv_operations.specs.Links.{format_length, format_place, links_of}
 use Rattle.rv_operations.specs.CodePlaces.{Places}
 use Rattle.rv_operations.specs.OpSites.{CanStand, HasRules, IsBegun}
 use Rattle.rv_operations.proofs.OpRules.{rules}
-use Rattle.rv_emit.specs.Code.{number_of, places_of, site_of}
+use Rattle.rv_emit.specs.Code.{places_of, site_of}
 use Rattle.rv_emit.specs.Emits.{CanEmit}
 use Rattle.rv_emit.specs.Planned.{IsWord}
 use Rattle.rv_emit.proofs.Images.{entry_within}

@@ -1,5 +1,5 @@
 -- Operations, and jumps of tables, appended one by one.
-use Rattle.std.proofs.Common.{◌≡◌, ℕ, zero, suc, ◌+◌, ◌-◌, ◌*◌, ◌<◌, ◌≤◌, List, [], ◌∷◌, ◌++◌, length, drop, get_or, map, take, Option, Some, None, refl, sym, ap, subst, ◌∙◌, arith, append_assoc}
+use Rattle.std.proofs.Common.{◌≡◌, ℕ, suc, ◌+◌, ◌-◌, ◌*◌, ◌^◌, ◌<◌, ◌≤◌, List, [], ◌∷◌, ◌++◌, length, drop, get_or, map, take, Some, None, sym, ap, subst, ◌∙◌, arith, append_assoc}
 use Rattle.std.proofs.lemmas.List.{append-nil, drop_all, drop_more, map_more, take_all}
 use Rattle.std.proofs.lemmas.List.Elements.{All-more}
 use Rattle.std.proofs.lemmas.Option.{slice_get-get_or}
@@ -15,10 +15,11 @@ use Rattle.rv_operations.specs.declared.places.Routines.{Routines}
 use Rattle.rv_operations.specs.OpCodes.{instructions, op_length}
 use Rattle.rv_operations.specs.Links.{links_of}
 use Rattle.rv_operations.specs.Switch.{led}
-use Rattle.rv_emit.specs.Code.{first_op, length_of, number_of, op_place, ops_code, place_from, places_of, routines_at, site_of, table_code}
+use Rattle.rv_emit.specs.Code.{length_of, number_of, op_place, ops_code, place_from, places_of, routines_at, site_of, table_code}
+use Rattle.rv_emit.specs.Emits.{CanEmit}
 use Rattle.rv_emit.specs.Planned.{IsWord, leads, operations_of, routine_of, table_of}
 use Rattle.rv_emit.specs.declared.plan.Switch.{Switch}
-use Rattle.rv_emit.proofs.Placed.{place_next}
+use Rattle.rv_emit.proofs.Placed.{place_near, place_next}
 use Rattle.rv_emit.proofs.OpPlaces.{first_place}
 use Rattle.rv_emit.proofs.Images.{place_by_entry}
 use Rattle.rv_emit.proofs.Ops.{no_op, op_there}
@@ -67,6 +68,12 @@ module _ (settings : Settings) (c : MicroCode) where
       let long : n ≡ length_of settings c.static_cells (get_or ops q no_op) = len ∙ ap (λ m. op_length m (get_or ops q no_op)) (num ∙ ap (λ m. number_of settings m (get_or ops q no_op)) st) in
       let sum : place + 4 * n ≡ op_place settings c (suc q) = omega arith in
       sum ∙ ap (op_place settings c) s
+
+  -- it is near
+  pub next_low : CanEmit c settings → (ops : List Op) (q next : ℕ) → ops ≡ c.ops → q < length ops → next ≡ op_place settings c (q + 1) → next < 2 ^ 31
+  next_low can ops q next is lt at =
+      let within : q < length c.ops = omega (arith, ap length is) in
+      omega (arith, place_near settings c can (q + 1) (omega arith))
 
   -- one word more
   pub word_more : (ops : List Op) (q statics : ℕ) → ops ≡ c.ops → q < length ops → statics ≡ c.static_cells → IsWord settings statics (get_or ops q no_op) → All (IsWord settings c.static_cells) (take q c.ops) → All (IsWord settings c.static_cells) (take (q + 1) c.ops)

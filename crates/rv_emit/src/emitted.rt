@@ -27,11 +27,7 @@ pub struct Emitted {
 }
 
 /// The code words.
-fn code_words<L: Layout>(
-    alloc: Global,
-    plan: &Plan<'_>,
-    layout: &L,
-) -> Result<Vec<u32>, AllocError>
+fn code_words<L: Layout>(alloc: Global, plan: &Plan<'_>, layout: &L) -> Result<Vec<u32>, AllocError>
     requires plan { IsPlanned plan.now.params.now.settings plan.now.code.now plan.now.ops.now }
     requires layout { L.sizes layout.now ≡ plan.now.params.now.settings.sizes }
     ensures { IfOk result (λ words. words.items ≡ words_of plan.now.params.now.settings plan.now.code.now) }

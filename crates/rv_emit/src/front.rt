@@ -54,11 +54,7 @@ fn start_code(top: u32, to: u32) -> [Instr; 7]
 }
 
 /// Appends the routines that test a cell for a descriptor.
-fn append_checks<L: Layout>(
-    code: &mut Vec<Instr>,
-    layout: &L,
-    cells: u32,
-) -> Result<(), AllocError>
+fn append_checks<L: Layout>(code: &mut Vec<Instr>, layout: &L, cells: u32) -> Result<(), AllocError>
     requires { cells ≤ 2 ^ 20 }
     ensures { OnOk result (code.new.items ≡ code.old.items ++ check_routine (L.sizes layout.now).descr cells ++ fit_routine (bits_of (L.sizes layout.now) F) (L.sizes layout.now).descr cells ++ fit_routine (bits_of (L.sizes layout.now) V) (L.sizes layout.now).descr cells ++ open_routine (bits_of (L.sizes layout.now) F) (bits_of (L.sizes layout.now) V) (L.sizes layout.now).descr cells) }
 {
@@ -83,11 +79,7 @@ fn append_tests<L: Layout>(code: &mut Vec<Instr>, layout: &L, cells: u32) -> Res
 }
 
 /// Appends the routines that set a word of the state, make a cell characters, and set a kind.
-fn append_stores<L: Layout>(
-    code: &mut Vec<Instr>,
-    layout: &L,
-    cells: u32,
-) -> Result<(), AllocError>
+fn append_stores<L: Layout>(code: &mut Vec<Instr>, layout: &L, cells: u32) -> Result<(), AllocError>
     requires { cells ≤ 2 ^ 20 }
     ensures { OnOk result (code.new.items ≡ code.old.items ++ state_routine ++ make_routine (L.sizes layout.now).descr cells ++ kind_routine (L.sizes layout.now).descr cells) }
 {

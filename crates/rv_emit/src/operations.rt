@@ -49,10 +49,7 @@ pub fn op_places<L: Layout>(
     let statics = u64::from(code.static_cells());
     let mut scratch = Vec::new(alloc);
     let mut places = Vec::new(alloc);
-    let mut place = u64::from(first_op(
-        params.numbers().descr() as u32,
-        code.statements() as u32,
-    ));
+    let mut place = u64::from(first_op(params.numbers().descr() as u32, code.statements() as u32));
     let ops = code.ops();
     for op in ops {
         places.push(place)?;

@@ -5,7 +5,7 @@ ghost use Rattle.sil_check.specs.Built.{is_built};
 use sil_macros::{Macro, number_of_macro};
 
 /// The macros that are installed so far.
-pub const BUILT: [Macro; 46] = [
+pub const BUILT: [Macro; 50] = [
     Macro::Acomp,
     Macro::Acompc,
     Macro::Adjust,
@@ -32,6 +32,8 @@ pub const BUILT: [Macro; 46] = [
     Macro::Movv,
     Macro::Mult,
     Macro::Multc,
+    Macro::Pop,
+    Macro::Push,
     Macro::Putac,
     Macro::Putd,
     Macro::Putdc,
@@ -45,6 +47,8 @@ pub const BUILT: [Macro; 46] = [
     Macro::Setsiz,
     Macro::Setva,
     Macro::Setvc,
+    Macro::Spop,
+    Macro::Spush,
     Macro::Subtrt,
     Macro::Sum,
     Macro::Testf,

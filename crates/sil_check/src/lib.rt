@@ -8,7 +8,7 @@ mod specials;
 mod statements;
 mod tables;
 
+pub use built::{BUILT, is_built};
 pub use sil_arguments::CheckStop;
 pub use sil_shapes::fits;
-pub use built::{BUILT, is_built};
 pub use source::check;

@@ -1,7 +1,7 @@
 -- The macros that are installed so far are expanded.
 use Rattle.std.proofs.Common.{◌≡◌, true, refl}
 use Rattle.sil_macros.specs.declared.names.Macro.{Macro}
-use Rattle.sil_macros.specs.declared.names.Macro.TheVariants.{Acomp, Acompc, Adjust, Aeql, Aeqlc, Aeqlic, Chkval, Decra, Deql, Divide, Endex, Getac, Getd, Getdc, Getsiz, Incra, Incrv, Lcomp, Leqlc, Mnsint, Mova, Movd, Movdic, Movv, Mult, Multc, Putac, Putd, Putdc, Putvc, Resetf, Rsetfi, Setac, Setav, Setf, Setfi, Setsiz, Setva, Setvc, Subtrt, Sum, Testf, Testfi, Vcmpic, Veql, Veqlc}
+use Rattle.sil_macros.specs.declared.names.Macro.TheVariants.{Acomp, Acompc, Adjust, Aeql, Aeqlc, Aeqlic, Chkval, Decra, Deql, Divide, Endex, Getac, Getd, Getdc, Getsiz, Incra, Incrv, Lcomp, Leqlc, Mnsint, Mova, Movd, Movdic, Movv, Mult, Multc, Pop, Push, Putac, Putd, Putdc, Putvc, Resetf, Rsetfi, Setac, Setav, Setf, Setfi, Setsiz, Setva, Setvc, Spop, Spush, Subtrt, Sum, Testf, Testfi, Vcmpic, Veql, Veqlc}
 use Rattle.sil_check.specs.Built.{is_built}
 use Rattle.macro_expand.specs.Expanded.{is_expanded}
 
@@ -33,6 +33,8 @@ built_is_expanded Movdic h = refl
 built_is_expanded Movv h = refl
 built_is_expanded Mult h = refl
 built_is_expanded Multc h = refl
+built_is_expanded Pop h = refl
+built_is_expanded Push h = refl
 built_is_expanded Putac h = refl
 built_is_expanded Putd h = refl
 built_is_expanded Putdc h = refl
@@ -46,6 +48,8 @@ built_is_expanded Setfi h = refl
 built_is_expanded Setsiz h = refl
 built_is_expanded Setva h = refl
 built_is_expanded Setvc h = refl
+built_is_expanded Spop h = refl
+built_is_expanded Spush h = refl
 built_is_expanded Subtrt h = refl
 built_is_expanded Sum h = refl
 built_is_expanded Testf h = refl

@@ -80,9 +80,9 @@ settles s (Some (effects.On Next, t)) h = tt
 settles s (Some (effects.On (To k), t)) h = tt
 settles s (Some (effects.On (Exit code), t)) h = tt
 settles s (Some (effects.On Trap, t)) h = tt
-settles s (Some (effects.Undefined, t)) h = h
-settles s (Some (effects.UnitFault unit, t)) h = h
-settles s (Some (effects.Untold, t)) h = h
+settles s (Some (effects.Undefined, t)) h = absurd h
+settles s (Some (effects.UnitFault unit, t)) h = absurd h
+settles s (Some (effects.Untold, t)) h = absurd h
 
 by-calls : (b : Bool) (name : Macro) (site : Site) (s : abstract.State) → calls_unit name ≡ b → StepsPlainly (settle s (clause name site s))
 by-calls true name site s h = subst (λ e. StepsPlainly (settle s e)) (sym (uncalled name site s h)) tt
@@ -109,7 +109,7 @@ run-plain program parameters (suc n) s =
 
 -- ---- the emulator's exits
 
-abbrev HasSmallExit : CpuEnd → Type 0
+abbrev pub HasSmallExit : CpuEnd → Type 0
 HasSmallExit (run.Exit code) = code ≤ 1
 HasSmallExit _ = Unit {0}
 
@@ -202,11 +202,11 @@ step-small image s = word-small image (word_at image.words s.pc) s
 ran-small : (image : Image) (n : ℕ) (s : State) → EndsSmall (emulator.run image n s)
 unfolding emulator.run
 ran-small image zero s = tt
-ran-small image (suc n) s = on (step image s) (step-small image s)
+ran-small image (suc n) s = on (λ t. ran-small image n t) (step image s) (step-small image s)
   where
-    on : (o : Outcome) → EndsSmall o → EndsSmall (on_state o (emulator.run image n))
-    on (On t) h = ran-small image n t
-    on (Ended e tapes) h = h
+    on : ((t : State) → EndsSmall (emulator.run image n t)) → (o : Outcome) → EndsSmall o → EndsSmall (on_state o (emulator.run image n))
+    on again (On t) h = again t
+    on again (Ended e tapes) h = h
 
 small-of : (o : Outcome) (end : CpuEnd) → EndsSmall o → end_of o ≡ Some end → HasSmallExit end
 small-of (On t) end h e = let same : run.Runaway ≡ end = cc in subst HasSmallExit same tt

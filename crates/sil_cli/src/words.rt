@@ -1,5 +1,5 @@
 // The words of a command.
-ghost use Rattle.std.specs.Prelude.{◌≡◌, map};
+ghost use Rattle.std.specs.Prelude.{◌≡◌, ◌≤◌, map, IfSome};
 ghost use Rattle.std.specs.Option.{option_map};
 ghost use Rattle.std.specs.String.{string_bytes};
 ghost use Rattle.sil_cli.specs.CommandWords.{order_of, steps_of, is_argument};
@@ -11,7 +11,8 @@ use sil_base::{MAX_STEPS, digits_value, is_number};
 /// A number of steps: 1 to 13 digits, at most 2^40.
 #[tactic(auto, unfolding(crate::specs::CommandWords::steps_of))]
 fn steps(word: &str) -> Option<u64>
-    ensures { result ≡ steps_of word.now }
+    ensures value { result ≡ steps_of word.now }
+    ensures few { IfSome result (λ n. n ≤ MAX_STEPS) }
 {
     let digits = word.as_bytes();
     if !is_number(digits) || digits.len() > 13 {

@@ -179,9 +179,9 @@ module _ (program : Program) (parameters : Parameters) (c : MicroCode) (image : 
           let v : Micro = record u { state = record u.state { statement = k; steps = m.steps + 1 }; spent = 28 } in
           let w = subst (λ e. Does image last g places false 28 (places.op (suc b.q)) s (begin_if e k u)) some does in
           let first : and_on (At (b.q + 1) v) (micro.run g c count) ≡ o =
-            sym (ap (λ e. and_on (follow c b.q (begin_if e k (record u { spent = u.spent + 28 }))) (micro.run g c count)) some) ∙ sym (run_more image settings c carries n small count b.q u (Some (Begin k)) b.begins) ∙ run in
+          sym (ap (λ e. and_on (follow c b.q (begin_if e k (record u { spent = u.spent + 28 }))) (micro.run g c count)) some) ∙ sym (run_more image settings c carries n small count b.q u (Some (Begin k)) b.begins) ∙ run in
           let listed : k ∷ micro.met g c count (b.q + 1) v ≡ k ∷ [] =
-            sym (ap (λ e. (if e then k ∷ [] else []) ++ micro.met_after (follow c b.q (begin_if e k (record u { spent = u.spent + 28 }))) (micro.met g c count)) some) ∙ sym (met_more image settings c carries n small count b.q u (Some (Begin k)) b.begins) ∙ meets in
+          sym (ap (λ e. (if e then k ∷ [] else []) ++ micro.met_after (follow c b.q (begin_if e k (record u { spent = u.spent + 28 }))) (micro.met g c count)) some) ∙ sym (met_more image settings c carries n small count b.q u (Some (Begin k)) b.begins) ∙ meets in
           let rest : micro.met g c count (b.q + 1) v ≡ [] = cc in
           let next : suc b.q ≡ b.q + 1 = omega arith in
           goes image settings c carries n small count s w.0 (b.q + 1) v o

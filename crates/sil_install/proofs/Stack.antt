@@ -23,4 +23,3 @@ first_word top bytes h small =
 pub AreBytes-stack : (top : ℕ) (bytes : List ℕ) → AreBytes bytes → AreBytes (with_stack top bytes)
 AreBytes-stack top bytes h =
     AreBytes-with_piece 8 (low_bytes 8 top) (with_piece 0 (low_bytes 8 top) bytes) (low_bytes_below 8 top) (AreBytes-with_piece 0 (low_bytes 8 top) bytes (low_bytes_below 8 top) h)
-

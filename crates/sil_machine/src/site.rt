@@ -186,14 +186,8 @@ fn is_between(first: i64, last: i64, size: u64, at: i64) -> bool
     requires { 0 < size }
     ensures { result ≡ is_between first last size at }
 {
-    match (
-        u64::try_from(first),
-        u64::try_from(last),
-        u64::try_from(at),
-    ) {
-        (Ok(first), Ok(last), Ok(at)) => {
-            first <= at && at <= last && (at - first) % size == 0
-        }
+    match (u64::try_from(first), u64::try_from(last), u64::try_from(at)) {
+        (Ok(first), Ok(last), Ok(at)) => { first <= at && at <= last && (at - first) % size == 0 }
         _ => false,
     }
 }

@@ -1,7 +1,6 @@
-use Rattle.std.proofs.Common.{◌≡◌, ◌++◌, [], sym, ap, subst, ◌∙◌}
+use Rattle.std.proofs.Common.{◌++◌, sym, ap, subst, ◌∙◌}
 use Rattle.std.specs.Prelude.{All, map}
 use Rattle.rv_isa.specs.InstrWords.{IsInstr, word_of}
-use Rattle.rv_emit.specs.Code.{whole_code}
 use Rattle.rv_emit.specs.Planned.{front_of}
 use Rattle.rv_emit.proofs.CodeWords.{each_instr}
 use Rattle.rv_emit.proofs.Fronts.{whole_is}

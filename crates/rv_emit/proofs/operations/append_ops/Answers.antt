@@ -1,6 +1,6 @@
-use Rattle.std.proofs.Common.{◌<◌, ◌≤◌, ◌++◌, length, get_or, refl, sym, ap, ◌∙◌, arith}
+use Rattle.std.proofs.Common.{◌<◌, ◌≤◌, ◌++◌, length, get_or, sym, ap, ◌∙◌, arith}
 use Rattle.std.proofs.lemmas.List.{get_or_default}
-use Rattle.rv_emit.specs.Code.{op_place, routines_at}
+use Rattle.rv_emit.specs.Code.{routines_at}
 use Rattle.rv_emit.specs.Planned.{operations_of}
 use Rattle.rv_emit.proofs.Ops.{no_op, op_known, can_stand}
 use Rattle.rv_emit.proofs.Steps.{new_op, ops_end, ops_first, ops_more}

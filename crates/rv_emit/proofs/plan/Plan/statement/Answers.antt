@@ -1,4 +1,4 @@
-use Rattle.std.proofs.Common.{◌≡◌, sym, ◌∙◌}
+use Rattle.std.proofs.Common.{sym}
 use Rattle.rv_emit.proofs.Ops.{entry_near}
 use Rattle.rv_emit.proofs.plan.Plan.statement.Goals as goal
 
