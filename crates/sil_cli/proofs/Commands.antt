@@ -8,7 +8,6 @@ use Rattle.unit_io.specs.Tapes.{Tapes}
 use Rattle.unit_io.specs.Units.{AllUnits, tapes_of}
 use Rattle.layout_params.specs.Parameters.{Parameters}
 use Rattle.sil_model.specs.declared.end.End.{End}
-use Rattle.sil_model.specs.declared.end.End.TheVariants as ends
 use Rattle.sil_model.specs.declared.program.Program.{Program}
 use Rattle.sil_model.specs.Machine.{machine}
 use Rattle.image_file.specs.Image.{Image, IsImage}

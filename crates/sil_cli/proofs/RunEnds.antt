@@ -1,5 +1,5 @@
 -- How runs of installed programs end, as long as no macro calls a unit: by an exit with 0 or 1, a trap, an undefined use or the bound.
-use Rattle.std.proofs.Common.{◌≡◌, ℕ, zero, suc, ◌≤◌, Bool, true, false, ◌==◌, ◌&&◌, Option, None, Some, refl, sym, subst, ◌∙◌, arith}
+use Rattle.std.proofs.Common.{◌≡◌, ℕ, zero, suc, ◌≤◌, Bool, true, false, ◌==◌, ◌&&◌, Option, None, Some, refl, sym, subst, arith}
 use Rattle.std.proofs.lemmas.Bool.Decides.{nat_tests}
 use Rattle.std.specs.Prelude.{ℤ, is_some, nat_le, nat_lt, slice_get, if◌then◌else◌}
 use Rattle.unit_io.specs.RunEnds.{Run}
@@ -34,7 +34,7 @@ use Rattle.rv_emulate.specs.declared.end.CpuEnd.{CpuEnd}
 use Rattle.rv_emulate.specs.declared.end.CpuEnd.TheVariants as run
 use Rattle.rv_emulate.specs.Ecalls as calls
 use Rattle.rv_emulate.specs.Ecalls.{is_unit_call}
-use Rattle.rv_emulate.specs.EmulatorMemory.{Memory, loaded, stored}
+use Rattle.rv_emulate.specs.EmulatorMemory.{Memory, stored}
 use Rattle.rv_emulate.specs.EmulatorStates.{State, Outcome, On, Ended, register, statement_number, start}
 use Rattle.rv_emulate.specs.EmulatorSteps.{act, i_step, load_step, store_step, answer, with_instr, with_word, word_at, step, sum64, s_width}
 use Rattle.rv_emulate.specs.EmulatorSteps as steps

@@ -1,5 +1,5 @@
 -- What an accepted command does, in whole.
-use Rattle.std.proofs.Common.{◌≡◌, ℕ, ◌≤◌, Bool, true, false, cond, nat_le, List, [], length, Option, Some, IfSome, ◌⊎◌, inl, inr, refl, ap, ◌∙◌, arith, lit≤, Ok, Err}
+use Rattle.std.proofs.Common.{◌≡◌, ℕ, ◌≤◌, Bool, true, false, nat_le, List, length, Option, Some, IfSome, ◌⊎◌, inl, inr, refl, ap, ◌∙◌, arith, Ok, Err}
 use Rattle.std.proofs.lemmas.Bool.Decides.{nat_tests}
 use Rattle.std.specs.declared.result.Result.{Result}
 use Rattle.std.specs.FinMap.{get, insert}
