@@ -2,13 +2,15 @@
 #![tactic(auto)]
 
 mod built;
+mod laws;
 mod program;
 mod source;
 mod specials;
 mod statements;
 mod tables;
 
+pub use built::{BUILT, is_built};
+pub use laws::law_of_programs;
 pub use sil_arguments::CheckStop;
 pub use sil_shapes::fits;
-pub use built::{BUILT, is_built};
 pub use source::check;
