@@ -3,3 +3,7 @@ pub mod CardLemmas
 pub mod VerdictLemmas
 pub mod ScopeLemmas
 pub mod ProgramLemmas
+pub mod Circles
+pub mod MadeOperands
+pub mod MadePrograms
+pub mod Unbuilt

@@ -91,3 +91,9 @@ abbrev pub IsStopFor : Result Program CheckStop → CheckStop → Type 0
 IsStopFor answer (stop.Faults faults) = answer ≡ Err (stop.Faults faults)
 IsStopFor answer stop.NotBuilt = answer ≡ Err stop.NotBuilt
 IsStopFor answer stop.Memory = Unit {0}
+
+-- NotBuilt is answered only for a source that isn't built
+abbrev pub IsUnbuilt : List Stmt → CheckStop → Type 0
+IsUnbuilt source (stop.Faults faults) = Unit {0}
+IsUnbuilt source stop.NotBuilt = is_built_source source ≡ false
+IsUnbuilt source stop.Memory = Unit {0}

@@ -2,6 +2,7 @@
 #![tactic(auto)]
 
 mod built;
+mod laws;
 mod program;
 mod source;
 mod specials;
@@ -9,6 +10,7 @@ mod statements;
 mod tables;
 
 pub use built::{BUILT, is_built};
+pub use laws::law_of_programs;
 pub use sil_arguments::CheckStop;
 pub use sil_shapes::fits;
 pub use source::check;

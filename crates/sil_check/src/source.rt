@@ -13,9 +13,11 @@ ghost use Rattle.syntax_tables.specs.Tables.{tables_of};
 ghost use Rattle.sil_check.specs.HeldPrograms.{HaveShortLists, IsMadeOf, IsProgramOf};
 ghost use Rattle.sil_arguments.specs.HeldScopes.{IsBound};
 ghost use Rattle.sil_check.specs.Specials.{special_faults};
-ghost use Rattle.sil_check.specs.Verdicts.{is_assembled, is_built_source, is_built_statement, unless_faults, verdict_built, verdict_with, verdict_of, verdict, IsStopFor};
+ghost use Rattle.sil_check.specs.Statements.{statements_of};
+ghost use Rattle.sil_check.specs.Verdicts.{is_assembled, is_built_source, is_built_statement, unless_faults, verdict_built, verdict_with, verdict_of, verdict, IsStopFor, IsUnbuilt};
 
 use crate::built::is_built;
+use crate::laws::law_of_programs;
 use crate::program::program_over;
 use crate::specials::{special_faults, specials_of};
 use crate::statements::statements_of;
@@ -188,11 +190,13 @@ pub fn check(
     requires good { AreCards cards.items }
     ensures verdict { let answer = verdict cards.items tables.now params.now
         in MatchResult result (λ p. answer ≡ Ok p) (IsStopFor answer) }
+    ensures complete { IfErr result (IsUnbuilt (statements_of cards.items)) }
     ensures well_formed { IfOk result (λ p. IsWellFormed p params.now.settings) }
     ensures built { IfOk result AreBuilt }
 {
     what_is_read_is_spelled();
     law_of_values();
+    law_of_programs();
     let statements = statements_of(alloc, cards)?;
     check_statements(alloc, &statements, tables, params)
 }

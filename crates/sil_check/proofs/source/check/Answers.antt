@@ -1,11 +1,13 @@
-use Rattle.std.specs.Prelude.{◌≡◌}
+use Rattle.std.specs.Prelude.{◌≡◌, IfErr}
 use Rattle.std.proofs.Common.{subst, sym, ◌∙◌}
 use Rattle.std.proofs.lemmas.Result.{IfOk-weaker}
 use Rattle.sil_symbols.specs.SymbolRules.{EndsOnce}
 use Rattle.sil_check.specs.Statements.{statements_of}
 use Rattle.sil_check.specs.HeldPrograms.{HaveShortLists}
+use Rattle.sil_check.specs.Verdicts.{IsUnbuilt}
 use Rattle.sil_check.proofs.CardLemmas.{ended, short_lists}
 use Rattle.sil_check.proofs.ProgramLemmas.{checked}
+use Rattle.sil_check.proofs.Unbuilt.{unbuilt}
 use Rattle.sil_check.proofs.source.check.Goals as goal
 
 -- the statements are those of the cards
@@ -17,6 +19,11 @@ check_statements-requires-clause-ended c = subst EndsOnce (sym (same c)) (ended 
 
 pub check_statements-requires-clause-lists : goal.check_statements-requires-clause-lists
 check_statements-requires-clause-lists c = subst HaveShortLists (sym (same c)) (short_lists c.what_is_read_is_spelled.ensures c.args.cards.items)
+
+pub returns-clause-complete : goal.returns-clause-complete
+returns-clause-complete c =
+    subst (λ ss. IfErr c.check_statements.result (IsUnbuilt ss)) (c.deref.ensures.value ∙ c.in_ok-statements.ensures)
+    (unbuilt c.law_of_programs.ensures c.args.params.now c.deref.result.now c.args.tables.now c.check_statements.result c.check_statements.ensures.verdict)
 
 pub returns-clause-well_formed : goal.returns-clause-well_formed
 returns-clause-well_formed c = IfOk-weaker c.check_statements.result _ _ (λ p h. (checked c.law_of_values.ensures c.args.params.now c.deref.result.now p h).well_formed) c.check_statements.ensures.made
