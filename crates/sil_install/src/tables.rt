@@ -62,7 +62,8 @@ fn put_entry(bytes: &mut Vec<u8>, entry: &Entry) -> Result<(), AllocError>
         put_flag(entry.put),
         next_table(entry.action),
         put_value(entry.put),
-    ))
+    ))?;
+    Ok(())
 }
 
 /// Appends the bytes of entries.
