@@ -1,0 +1,12 @@
+// The expansions of jumps, of traps, and of what the stack and the steps say, into micro operations.
+#![tactic(auto)]
+
+mod ends;
+mod expansion;
+mod jumps;
+mod locations;
+mod operands;
+mod stack;
+mod system;
+
+pub use expansion::{expand_control, is_control};
