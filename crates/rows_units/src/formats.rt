@@ -235,10 +235,11 @@ fn is_read_as(alloc: Global, bytes: &[u8], expected: &[u8]) -> Result<bool, Form
     Ok(out.as_slice() == expected)
 }
 
-fn is_bad(alloc: Global, bytes: &[u8]) -> bool {
+fn is_bad(alloc: Global, bytes: &[u8]) -> Result<bool, FormatStop> {
     match read_format(alloc, bytes) {
-        Ok(_) => false,
-        Err(stop) => stop == FormatStop::Bad,
+        Ok(_) => Ok(false),
+        Err(FormatStop::Bad) => Ok(true),
+        Err(FormatStop::Memory) => Err(FormatStop::Memory),
     }
 }
 
@@ -289,10 +290,11 @@ fn formats_are_read(rt: HostRuntime) -> Result<(), Fail> {
 }
 
 #[test]
-fn other_bytes_are_no_format(rt: HostRuntime) {
+fn other_bytes_are_no_format(rt: HostRuntime) -> Result<(), Fail> {
     for bytes in BAD.iter() {
-        assert!(rt; is_bad(rt.alloc(), bytes));
+        assert!(rt; is_bad(rt.alloc(), bytes)?);
     }
+    Ok(())
 }
 
 #[test]

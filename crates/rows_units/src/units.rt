@@ -46,19 +46,25 @@ enum Call {
 }
 
 impl Call {
-    /// Makes the call, and says whether it answers so.
-    fn answers<U: Unit>(self, unit: &mut U) -> bool {
-        match self {
+    /// Makes the call, and says whether it answers so, or that memory ran out.
+    fn answers<U: Unit>(self, unit: &mut U) -> Result<bool, AllocError> {
+        Ok(match self {
             Call::Read(answer, left) => {
                 let mut into = *b"....";
                 unit.read(&mut into) == answer && into == *left
             }
-            Call::Write(bytes, answer) => unit.write(bytes) == answer,
+            Call::Write(bytes, answer) => {
+                let made = unit.write(bytes);
+                if made == UnitAnswer::Memory {
+                    return Err(AllocError);
+                }
+                made == answer
+            }
             Call::Rewind(answer) => unit.rewind() == answer,
             Call::Backspace(answer) => unit.backspace() == answer,
             Call::Endfile(answer) => unit.endfile() == answer,
             Call::Finish(answer) => unit.finish() == answer,
-        }
+        })
     }
 }
 
@@ -159,7 +165,7 @@ fn tapes_answer_calls_in_order(rt: HostRuntime) -> Result<(), Fail> {
     for (row, script) in SCRIPTS.iter().enumerate() {
         let mut tape = tape(rt.alloc(), script.records, script.fails)?;
         for (at, call) in script.calls.iter().enumerate() {
-            assert!(rt; call.answers(&mut tape), "row {row}, call {at}");
+            assert!(rt; call.answers(&mut tape)?, "row {row}, call {at}");
         }
         assert!(rt; holds(&tape, script.left), "row {row}");
     }
@@ -199,7 +205,7 @@ enum Numbered {
 }
 
 impl Numbered {
-    /// Makes the call, and says whether it answers so.
+    /// Makes the call, and says whether it answers so, or that memory ran out.
     fn answers<U: UnitSet>(self, alloc: Global, units: &mut U) -> Result<bool, AllocError> {
         Ok(match self {
             Numbered::Read(n, answer, left) => {
@@ -208,7 +214,11 @@ impl Numbered {
             }
             Numbered::Write(n, first, second, answer) => {
                 let records = [Record::of(alloc, first)?, Record::of(alloc, second)?];
-                units.write_all(n, &records) == answer
+                let made = units.write_all(n, &records);
+                if made == UnitsAnswer::Memory {
+                    return Err(AllocError);
+                }
+                made == answer
             }
             Numbered::Rewind(n, answer) => units.rewind(n) == answer,
             Numbered::Backspace(n, answer) => units.backspace(n) == answer,
