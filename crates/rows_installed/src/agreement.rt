@@ -103,9 +103,9 @@ fn sizes_of(descr: u64, order: &[usize; 3], widths: &[u64; 3]) -> Option<Sizes> 
         if width == 0 || end > 64 {
             return None;
         }
-        let at = end + (width - end % width) % width;
+        let at = end.wrapping_add((width - end % width) % width);
         *places.get_mut(field)? = at;
-        end = at + width;
+        end = at.wrapping_add(width);
     }
     if end > descr {
         return None;

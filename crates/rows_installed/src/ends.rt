@@ -9,7 +9,7 @@ use rv_emulate::CpuEnd;
 use sil_base::MemoryStore;
 use sil_cards::read_cards;
 use sil_check::check;
-use sil_cli::run_image;
+use sil_cli::{law_of_built_programs, run_image};
 use sil_install::install;
 use sil_machine::{End, sim};
 use sil_model::Program;
@@ -29,7 +29,12 @@ pub fn job_of(alloc: Global, source: &[u8], sizes: &Sizes) -> Result<Job, Fail>
     ensures well_formed { IfOk result (λ j. IsWellFormed j.program j.params.settings) }
     ensures expanded { IfOk result (λ j. AreExpanded j.program) }
 {
-    let params = read_params(alloc, &params_of(alloc, sizes)?)?;
+    law_of_built_programs();
+    let text = params_of(alloc, sizes)?;
+    if text.len() > 1000 {
+        return Err(Fail::new("parameters"));
+    }
+    let params = read_params(alloc, &text)?;
     let mut store = MemoryStore::new(alloc, Vec::new(alloc));
     store.set("SRC", source)?;
     let Ok(cards) = read_cards(alloc, &mut store, "SRC") else {
