@@ -97,7 +97,7 @@ fn next(seed: u64) -> u64 {
 /// are longer than the cell.
 fn sizes_of(descr: u64, order: &[usize; 3], widths: &[u64; 3]) -> Option<Sizes> {
     let mut places = [0; 3];
-    let mut end = 0;
+    let mut end: u64 = 0;
     for &field in order {
         let width = *widths.get(field)?;
         if width == 0 || end > 64 {
