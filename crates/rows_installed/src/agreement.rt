@@ -140,7 +140,7 @@ fn the_image_ends_as_the_machine_in_every_layout(rt: HostRuntime) -> Result<(), 
                 if let Some(sizes) = sizes_of(8 * eighths, order, widths) {
                     let source = source_of(alloc, layouts)?;
                     assert!(rt; ends_so(alloc, &source, &sizes, 9, None)?, "{layouts}");
-                    layouts += 1;
+                    layouts = layouts.wrapping_add(1);
                 }
             }
         }
