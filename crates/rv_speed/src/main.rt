@@ -1,6 +1,9 @@
 // Runs a loop of eight instructions on the emulator, for the time of a run to be taken: it prints how
-// many instructions were made. The one argument is their number, at most 2^40.
+// many instructions were made. The one argument is their number, at most 2^40. With the arguments
+// `words N` it writes and reads an image of N words instead.
 #![tactic(auto)]
+
+mod images;
 
 use image_file::Image;
 use layout_params::{STANDARD_PARAMS, read_params};
@@ -96,8 +99,16 @@ fn run(alloc: Global, budget: u64) -> Result<Option<CpuEnd>, AllocError> {
 
 fn main(rt: HostRuntime) -> io::Result<()> {
     let mut budget = DEFAULT;
+    let mut is_image = false;
     for word in env::args(&rt)?.skip(1) {
-        budget = word.as_str().parse().unwrap_or(DEFAULT);
+        if word.as_str() == "words" {
+            is_image = true;
+        } else {
+            budget = word.as_str().parse().unwrap_or(DEFAULT);
+        }
+    }
+    if is_image {
+        return images::measure(&rt, u32::try_from(budget).unwrap_or(u32::MAX));
     }
     match run(rt.alloc(), budget)? {
         Some(CpuEnd::Runaway) => println!(rt; "{budget} instructions"),
