@@ -20,13 +20,14 @@ use Rattle.sil_micro.specs.Laws.{StandsAt}
 use Rattle.sil_micro.specs.Pieces.{is_quiet}
 use Rattle.sil_micro.specs.MicroRuns.{RunsTo}
 use Rattle.exp_choices.specs.Group.{is_choice}
+use Rattle.exp_control.specs.Group.{is_control}
 use Rattle.exp_descr.specs.Group.{is_descr}
 use Rattle.exp_flow.specs.Group.{is_flow}
 use Rattle.exp_stack.specs.Group.{is_stack}
 
 -- the macros that are expanded so far
 abbrev pub is_expanded : Macro → Bool
-is_expanded name = is_flow name || is_choice name || is_stack name || is_descr name
+is_expanded name = is_flow name || is_choice name || is_stack name || is_control name || is_descr name
 
 abbrev pub AreExpanded : Program → Type 0
 AreExpanded program = All (λ statement. IsTrue (is_expanded statement.name)) program.statements

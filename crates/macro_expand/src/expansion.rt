@@ -14,6 +14,7 @@ ghost use Rattle.macro_expand.specs.Expanded.{AreExpanded, IsExpansion, RunsAsTh
 ghost use Rattle.macro_expand.specs.Steps.{StepsWithinCosts};
 
 use exp_choices::{expand_choice, is_choice};
+use exp_control::{expand_control, is_control};
 use exp_descr::expand_descr;
 use exp_flow::{expand_flow, is_flow};
 use exp_stack::{expand_stack, is_stack};
@@ -73,6 +74,8 @@ fn expand(
         expand_choice(alloc, statement, at, specials, code)
     } else if is_stack(statement.name) {
         expand_stack(alloc, statement, at, specials, code)
+    } else if is_control(statement.name) {
+        expand_control(alloc, statement, at, specials, code)
     } else {
         expand_descr(alloc, statement, at, specials, code)
     }
