@@ -1,0 +1,2 @@
+// The expansions of calls and returns into micro operations.
+#![tactic(auto)]
