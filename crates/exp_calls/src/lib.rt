@@ -1,2 +1,11 @@
-// The expansions of calls and returns into micro operations.
+// The expansions of calls into micro operations.
 #![tactic(auto)]
+
+mod answers;
+mod calls;
+mod expansion;
+mod frames;
+mod locations;
+mod operands;
+
+pub use expansion::expand_call;
