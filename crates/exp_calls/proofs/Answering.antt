@@ -144,10 +144,10 @@ located_at k i (suc n) (l ∷ ls) =
     let e : i + suc n ≡ i + 1 + n = omega arith in
     simp differs (ap (λ x. located k (pos x) (i + 1) ls) e ∙ located_at k (i + 1) n ls)
 
-located_zero : (k i : ℕ) (ls : List (Option ℕ)) → located k (pos 0) (suc i) ls ≡ k + 1
+located_zero : (k i : ℕ) (ls : List (Option ℕ)) → 0 < i → located k (pos 0) i ls ≡ k + 1
 unfolding located
-located_zero k i [] = refl
-located_zero k i (l ∷ ls) = located_zero k (i + 1) ls
+located_zero k i [] lt = refl
+located_zero k i (l ∷ ls) lt = let differs : nat_eq 0 i ≡ false = grind (arith, nat_tests) in simp differs (located_zero k (i + 1) ls (omega arith))
 
 located_negative : (k n i : ℕ) (ls : List (Option ℕ)) → located k (negsuc n) i ls ≡ k + 1
 unfolding located
@@ -156,7 +156,7 @@ located_negative k n i (l ∷ ls) = located_negative k n (i + 1) ls
 
 located_is : (k : ℕ) (number : ℤ) (ls : List (Option ℕ)) → located k number 1 ls ≡ location_or (k + 1) (nth_location ls number)
 unfolding nth_location
-located_is k (pos zero) ls = located_zero k 0 ls
+located_is k (pos zero) ls = located_zero k 1 ls (omega arith)
 located_is k (pos (suc n)) ls = let e : suc n ≡ 1 + n = omega arith in ap (λ x. located k (pos x) 1 ls) e ∙ located_at k 1 n ls
 located_is k (negsuc n) ls = located_negative k n 1 ls
 

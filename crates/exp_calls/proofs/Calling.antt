@@ -37,7 +37,7 @@ use Rattle.exp_stack.proofs.Starts.{begun_at, up_first, up_goes, after_up, guard
 use Rattle.exp_stack.proofs.AddressLists.{places_go, line_goes, places_part, line_part, line_length}
 use Rattle.exp_stack.proofs.GatherLoop.{gather_goes, gather_part}
 use Rattle.exp_stack.proofs.ScatterLoop.{scatter_goes, scatter_part}
-use Rattle.exp_calls.specs.CallHalves.{DoesAnswer}
+use Rattle.exp_calls.specs.CallHalves.{DoesAnswer, answer}
 use Rattle.exp_calls.specs.CallOperands.{IsCall}
 use Rattle.exp_calls.specs.CallParts.{call_code, enter_code, frame_code, return_code}
 use Rattle.exp_calls.proofs.Answering.{given_light, given_weight, return_does, return_inside, return_part}
@@ -115,7 +115,7 @@ module _ (k : ℕ) (over : Option ℕ) (procedure : ℕ) (ds : List ℤ) (d : Op
     does = λ g u v.
         let front = call_code k over procedure ds in
         let same : length front + 0 ≡ length front = omega arith in
-        subst (λ i. Makes g (k + 1) rcall_code i u _ (u.spent + 1200)) same
+        subst (λ i. Makes g (k + 1) rcall_code i u (answer args k u.registers.r1 u.registers.r2 u.registers.r3 u.state) (u.spent + 1200)) same
         (then_part front (return_inside d k ls) (omega arith) (return_does g k args d ls u is.descriptor_is is.locations_are few v));
   }
 

@@ -1,5 +1,5 @@
 -- Parts that are put together from the front or from the end.
-use Rattle.std.proofs.Common.{◌≡◌, ℕ, ◌+◌, List, ◌++◌, length, Option, Some, refl, sym, ap, ◌∙◌, append_assoc, length-append}
+use Rattle.std.proofs.Common.{◌≡◌, ℕ, ◌+◌, List, ◌++◌, length, Some, sym, ap, ◌∙◌, append_assoc, length-append}
 use Rattle.std.specs.Prelude.{slice_set}
 use Rattle.sil_micro.specs.declared.op.Op.{Op}
 use Rattle.sil_micro.specs.Codes.{MicroCode, appended, begun, returned}
@@ -16,10 +16,15 @@ joined_assoc x y z =
 pub regrouped : (x y rest back : List Op) → rest ≡ joined y back → joined x rest ≡ joined (joined x y) back
 regrouped x y rest back e = ap (λ l. joined x l) e ∙ sym (joined_assoc x y back)
 
+-- a code whose call k has its return part at a place
+abbrev with_part : MicroCode → ℕ → ℕ → MicroCode → MicroCode
+with_part old k place c = record c { returns = slice_set old.returns k (Some place) }
+
 -- a code with the call's own part, and behind it the return part
-pub call_stands : (k : ℕ) (old begun_at mid at_return new : MicroCode) (call back : List Op) → begun_at ≡ begun k old → mid ≡ appended begun_at call → at_return ≡ returned k mid → new ≡ appended at_return back →
+pub call_stands : (k : ℕ) (old entered mid part new : MicroCode) (call back : List Op) → entered ≡ begun k old → mid ≡ appended entered call → part ≡ returned k mid → new ≡ appended part back →
     new ≡ record (appended (begun k old) (joined call back)) { returns = slice_set old.returns k (Some (length old.ops + length call)) }
-call_stands k old _ _ _ _ call back refl refl refl refl =
+call_stands k old entered mid part new call back e1 e2 e3 e4 =
     let count : length (old.ops ++ placed (length old.ops) call) ≡ length old.ops + length call = length-append old.ops (placed (length old.ops) call) ∙ ap (λ i. length old.ops + i) (length_placed (length old.ops) call) in
-    ap (λ c. record c { returns = slice_set old.returns k (Some (length (old.ops ++ placed (length old.ops) call))) }) (appended_twice (begun k old) call back)
-    ∙ ap (λ n. record (appended (begun k old) (joined call back)) { returns = slice_set old.returns k (Some n) }) count
+    e4 ∙ ap (λ c. appended c back) (e3 ∙ ap (λ c. returned k c) (e2 ∙ ap (λ c. appended c call) e1))
+    ∙ ap (λ c. with_part old k (length (old.ops ++ placed (length old.ops) call)) c) (appended_twice (begun k old) call back)
+    ∙ ap (λ n. with_part old k n (appended (begun k old) (joined call back))) count
