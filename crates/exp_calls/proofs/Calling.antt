@@ -1,13 +1,11 @@
 -- A call: its frame and its arguments go onto the stack, and the procedure follows.
-use Rattle.std.proofs.Common.{◌≡◌, ℕ, ◌+◌, ◌*◌, ◌^◌, ◌<◌, ◌≤◌, List, [], ◌∷◌, length, Option, Some, true, false, refl, sym, ap, ◌∙◌, subst, arith}
+use Rattle.std.proofs.Common.{◌≡◌, ℕ, ◌+◌, ◌*◌, ◌^◌, ◌<◌, ◌≤◌, List, ◌∷◌, length, Option, true, false, refl, sym, ap, ◌∙◌, subst, arith}
 use Rattle.std.proofs.Math.Nat.{mul-le-mul_left}
 use Rattle.std.specs.Prelude.{All, ℤ, pos, IfSome, int_lt, nat_lt, if◌then◌else◌}
 use Rattle.sil_base.specs.declared.places.TheConstants.{FIRST_ENTRY}
-use Rattle.layout_params.specs.Parameters.{Parameters}
 use Rattle.sil_macros.specs.declared.names.Macro.TheVariants.{Rcall}
 use Rattle.sil_model.specs.declared.program.Arg.{Arg}
 use Rattle.sil_model.specs.declared.program.Flow.TheVariants.{To}
-use Rattle.sil_model.specs.declared.program.Program.{Program}
 use Rattle.sil_model.specs.declared.program.Specials.{Specials}
 use Rattle.sil_model.specs.Access.{◌>>=◌}
 use Rattle.sil_model.specs.CallClauses.{entry_of, rcall}
@@ -22,7 +20,7 @@ use Rattle.sil_model.specs.Sites.{Site}
 use Rattle.sil_model.specs.StackClauses.{above, cells_above, summit, to_special}
 use Rattle.sil_model.specs.States.{State}
 use Rattle.sil_micro.specs.declared.op.Op.{Op}
-use Rattle.sil_micro.specs.Expands.{CanBegin, Does, IsPiece, Makes, at, cost_at, site_at}
+use Rattle.sil_micro.specs.Expands.{Does, IsPiece, Makes, at, cost_at, site_at}
 use Rattle.sil_micro.specs.MicroStates.{Setting, Micro, Registers}
 use Rattle.sil_micro.specs.Pieces.{joined, is_part}
 use Rattle.sil_micro.proofs.Making.{more, by_way, then_part}

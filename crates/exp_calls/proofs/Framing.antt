@@ -1,7 +1,7 @@
 -- The frame of a call among the values, and the operations that enter the procedure.
-use Rattle.std.proofs.Common.{◌≡◌, ℕ, ◌+◌, ◌<◌, List, [], ◌∷◌, Some, true, refl, ◌∙◌, arith}
+use Rattle.std.proofs.Common.{◌≡◌, ℕ, ◌+◌, ◌<◌, List, [], ◌∷◌, true, refl, ◌∙◌, arith}
 use Rattle.std.proofs.lemmas.Bool.Decides.{nat_tests}
-use Rattle.std.specs.Prelude.{ℤ, pos, nat_le}
+use Rattle.std.specs.Prelude.{ℤ, nat_le}
 use Rattle.layout_params.specs.declared.cell.Descr.{Descr}
 use Rattle.sil_model.specs.declared.limits.Limits.{Limits}
 use Rattle.sil_model.specs.DescriptorClauses.{integer_alone}

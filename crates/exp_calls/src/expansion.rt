@@ -40,5 +40,13 @@ pub fn expand_call(
     has_room(code, at);
     let args = statement.args.items();
     let to = procedure(args);
-    rcall(code, at, specials, descriptor(args), to, arguments(args), locations(args))
+    rcall(
+        code,
+        at,
+        specials,
+        descriptor(args),
+        to,
+        arguments(args),
+        locations(args),
+    )
 }

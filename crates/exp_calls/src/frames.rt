@@ -3,7 +3,9 @@ ghost use Rattle.std.specs.Prelude.{◌≡◌, ◌+◌, ◌<◌, ◌≤◌, ◌^
 ghost use Rattle.sil_micro.specs.Codes.{appended};
 ghost use Rattle.exp_calls.specs.CallParts.{call_code, enter_code, frame_code};
 
-use exp_stack::{append_gather, append_guard, append_line, append_places, append_scatter, append_up};
+use exp_stack::{
+    append_gather, append_guard, append_line, append_places, append_scatter, append_up,
+};
 use sil_micro::{Code, op};
 use std::alloc::AllocError;
 
