@@ -1,0 +1,4 @@
+pub mod Grouping
+pub mod Answering
+pub mod Framing
+pub mod Calling

@@ -1,0 +1,3 @@
+pub mod CallHalves
+pub mod CallParts
+pub mod CallOperands
