@@ -1,5 +1,5 @@
 -- Clap takes all words that can follow a command.
-use Rattle.std.proofs.Common.{◌≡◌, ◌∙◌, ◌&&◌, ◌==◌, ℕ, suc, zero, Bool, true, List, [], ◌∷◌, length, map, refl, sym, ap, ap₂, arith, fold}
+use Rattle.std.proofs.Common.{◌≡◌, ◌∙◌, ◌&&◌, ◌==◌, ℕ, suc, zero, Bool, true, true≢false, drop, List, [], ◌∷◌, length, map, refl, sym, ap, ap₂, arith, fold}
 use Rattle.std.specs.List.{list_all}
 use Rattle.std.proofs.lemmas.Bool.{eqb-true}
 use Rattle.clap.specs.Walk.{Rule, Text, idle, nothing_held}
@@ -117,3 +117,24 @@ all_taken name first words e =
     ∙ ap₂ (λ (a b : Bool). a && b) (simple name)
     (leaf_takes (app name) nothing_held words (alone name)
     (plain_level (app name).top (arguments name) words (placed name) (count ∙ same_count name) p.1 ∙ all_given name words count))
+
+none_follow : (name : CommandName) → are_arguments name [] ≡ true → ⊥
+none_follow Check e = true≢false (sym e)
+none_follow Install e = true≢false (sym e)
+none_follow Run e = true≢false (sym e)
+none_follow Trace e = true≢false (sym e)
+none_follow Sim e = true≢false (sym e)
+none_follow ListImage e = true≢false (sym e)
+none_follow Go e = true≢false (sym e)
+none_follow Demo e = true≢false (sym e)
+
+pub follow_taken : (name : CommandName) (words : List Text) → are_arguments name (drop 1 words) ≡ true → clap_takes name words ≡ true
+follow_taken name [] e = absurd (none_follow name e)
+follow_taken name (first ∷ words) e = all_taken name first words e
+
+-- the command that was made takes them
+pub made_takes : (name : CommandName) (words : List Text) (made : App) (word : Text) (args : List Text) → made ≡ app_with word args → word ≡ command_name name
+    → args ≡ argument_names name → are_arguments name (drop 1 words) ≡ true → takes made words ≡ true
+unfolding clap_takes
+made_takes name words made word args is named given e =
+    ap (λ (a : App). takes a words) (is ∙ ap₂ app_with named given) ∙ follow_taken name words e
