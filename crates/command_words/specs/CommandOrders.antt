@@ -23,7 +23,7 @@ pub data CommandOrder : Type 0 where
   simulates : SourceNames → ℕ → CommandOrder
   lists : List ℕ → CommandOrder
   goes : SourceNames → List ℕ → ℕ → CommandOrder
-  demonstrates : ℕ → ℕ → CommandOrder
+  demos : ℕ → ℕ → CommandOrder
 
 -- a word that is not empty and doesn't begin with a minus sign
 abbrev pub is_argument : List ℕ → Bool
@@ -87,7 +87,7 @@ go_of _ = None
 
 abbrev pub demo_of : List (List ℕ) → Option CommandOrder
 demo_of (cards ∷ seed ∷ []) =
-    option_and_then (λ n. option_map (demonstrates n) (seed_of seed)) (demo_cards_of cards)
+    option_and_then (λ n. option_map (demos n) (seed_of seed)) (demo_cards_of cards)
 demo_of _ = None
 
 abbrev pub order_of : CommandName → List (List ℕ) → Option CommandOrder
@@ -110,11 +110,11 @@ command_order words arguments name =
     if are_arguments name arguments && clap_takes name words then order_of name arguments else None
 
 -- the order that words give, none where they are not accepted
-abbrev pub command_of : List (List ℕ) → Option CommandOrder
+unfoldable pub command_of : List (List ℕ) → Option CommandOrder
 command_of [] = None
 command_of (first ∷ arguments) = option_and_then (command_order (first ∷ arguments) arguments) (named first)
 
--- the same without clap
+-- the same without clap's word
 abbrev pub plain_order : List (List ℕ) → CommandName → Option CommandOrder
 plain_order arguments name = if are_arguments name arguments then order_of name arguments else None
 

@@ -37,6 +37,7 @@ fn can_follow(name: CommandName, arguments: &[String]) -> bool
 }
 
 /// The command that words give, if they are accepted.
+#[tactic(auto, unfolding(crate::specs::CommandOrders::command_of))]
 pub fn read_command<'w>(
     alloc: Global,
     words: &'w [String],

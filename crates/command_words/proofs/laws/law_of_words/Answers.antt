@@ -16,6 +16,7 @@ same_order first arguments (Some name) =
     same_choice (are_arguments name arguments) (clap_takes name (first ∷ arguments)) (order_of name arguments) (all_taken name first arguments)
 
 same : (words : List (List ℕ)) → command_of words ≡ plain_command_of words
+unfolding command_of
 same [] = refl
 same (first ∷ arguments) = same_order first arguments (named first)
 
