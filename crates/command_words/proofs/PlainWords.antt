@@ -1,11 +1,11 @@
 -- A word that doesn't begin with a minus sign goes to the argument in its place.
-use Rattle.std.proofs.Common.{◌≡◌, ◌∙◌, ◌+◌, ◌&&◌, ◌||◌, ◌==◌, ℕ, suc, Bool, true, false, List, [], ◌∷◌, length, fold, Option, Some, None, refl, sym, ap, ap₂, arith, true≢false, if◌then◌else◌, option_and_then}
+use Rattle.std.proofs.Common.{◌≡◌, ◌∙◌, ◌&&◌, ◌||◌, ◌==◌, ℕ, Bool, true, false, List, [], ◌∷◌, length, fold, Option, Some, None, refl, sym, ap, ap₂, arith, true≢false, if◌then◌else◌, option_and_then}
 use Rattle.std.specs.Option.{option_map_or}
 use Rattle.std.specs.Str.{bytes_eq}
 use Rattle.clap.specs.Lexer.{long_of, long_of_rest, short_of, short_of_rest, strip_byte}
 use Rattle.std.specs.List.{list_all}
 use Rattle.std.proofs.lemmas.Bool.{not-true}
-use Rattle.clap.specs.Walk.{Held, Row, Rule, Step, Text, Walk, arg_by_index, finished, idle, is_multiple, long_or_other, next_position, nothing_held, positional, positional_held, short_or_plain, to_positional, trailing, after_step, value, walk, walk_from, walked, word_met}
+use Rattle.clap.specs.Walk.{Held, Rule, Step, Text, Walk, arg_by_index, finished, idle, is_multiple, long_or_other, next_position, nothing_held, positional, positional_held, short_or_plain, to_positional, trailing, after_step, value, walked, word_met}
 use Rattle.clap.specs.Simple.{Shape}
 use Rattle.clap.specs.Takes.{bundle_passes, default_passes, flag_word_passes, is_valid, level_passes, positional_passes, settle_passes, step_passes, turn_passes, walk_passes, word_passes}
 use Rattle.clap.proofs.WalkLemmas.{both}

@@ -1,16 +1,15 @@
 -- Clap takes all words that can follow a command.
-use Rattle.std.proofs.Common.{◌≡◌, ◌∙◌, ◌&&◌, ◌==◌, ℕ, suc, zero, Bool, true, true≢false, drop, List, [], ◌∷◌, length, map, refl, sym, ap, ap₂, arith, fold}
-use Rattle.std.specs.List.{list_all}
+use Rattle.std.proofs.Common.{◌≡◌, ◌∙◌, ◌&&◌, ℕ, suc, Bool, true, true≢false, drop, List, [], ◌∷◌, length, map, refl, sym, ap, ap₂, arith}
 use Rattle.std.proofs.lemmas.Bool.{eqb-true}
-use Rattle.clap.specs.Walk.{Rule, Text, idle, nothing_held}
-use Rattle.clap.specs.Simple.{App, Shape, built, filled_from, is_simple}
-use Rattle.clap.specs.Takes.{built_takes, level_passes, takes}
+use Rattle.clap.specs.Walk.{Rule, Text, nothing_held}
+use Rattle.clap.specs.Simple.{App, built, filled_from, is_simple}
+use Rattle.clap.specs.Takes.{built_takes, takes}
 use Rattle.clap.proofs.TakesLemmas.{leaf_takes}
 use Rattle.clap.proofs.WalkLemmas.{both}
 use Rattle.command_words.specs.declared.names.CommandName.{CommandName}
 use Rattle.command_words.specs.declared.names.CommandName.TheVariants.{Check, Install, Run, Trace, Sim, List as ListImage, Go, Demo}
 use Rattle.command_words.specs.ClapCommands.{app_with, argument_names, clap_takes, command_name, required_argument}
-use Rattle.command_words.specs.CommandOrders.{are_arguments, is_argument}
+use Rattle.command_words.specs.CommandOrders.{are_arguments}
 use Rattle.command_words.proofs.PlainWords.{InPlace, plain_level, plain_passes}
 
 longer : {X : Type 0} (n : ℕ) (P : List X → Type 0) → ((x : X) (xs : List X) → length xs ≡ n → P (x ∷ xs)) → (xs : List X) → length xs ≡ suc n → P xs

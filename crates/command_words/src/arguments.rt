@@ -64,7 +64,10 @@ fn install<'w>(arguments: &'w [String]) -> Option<Command<'w>>
         return None;
     };
     let names = files(source.as_str(), tables.as_str(), params.as_str());
-    Some(Command::Install { names, image: image.as_str() })
+    Some(Command::Install {
+        names,
+        image: image.as_str(),
+    })
 }
 
 fn run<'w>(arguments: &'w [String]) -> Option<Command<'w>>
@@ -74,7 +77,10 @@ fn run<'w>(arguments: &'w [String]) -> Option<Command<'w>>
         return None;
     };
     let steps = steps_in(steps.as_str())?;
-    Some(Command::Run { image: image.as_str(), steps })
+    Some(Command::Run {
+        image: image.as_str(),
+        steps,
+    })
 }
 
 fn trace<'w>(arguments: &'w [String]) -> Option<Command<'w>>
@@ -84,7 +90,10 @@ fn trace<'w>(arguments: &'w [String]) -> Option<Command<'w>>
         return None;
     };
     let steps = steps_in(steps.as_str())?;
-    Some(Command::Trace { image: image.as_str(), steps })
+    Some(Command::Trace {
+        image: image.as_str(),
+        steps,
+    })
 }
 
 fn sim<'w>(arguments: &'w [String]) -> Option<Command<'w>>
@@ -104,7 +113,9 @@ fn list<'w>(arguments: &'w [String]) -> Option<Command<'w>>
     let [image] = arguments else {
         return None;
     };
-    Some(Command::List { image: image.as_str() })
+    Some(Command::List {
+        image: image.as_str(),
+    })
 }
 
 fn go<'w>(arguments: &'w [String]) -> Option<Command<'w>>
@@ -115,7 +126,11 @@ fn go<'w>(arguments: &'w [String]) -> Option<Command<'w>>
     };
     let names = files(source.as_str(), tables.as_str(), params.as_str());
     let steps = steps_in(steps.as_str())?;
-    Some(Command::Go { names, image: image.as_str(), steps })
+    Some(Command::Go {
+        names,
+        image: image.as_str(),
+        steps,
+    })
 }
 
 fn demo<'w>(arguments: &'w [String]) -> Option<Command<'w>>
@@ -126,7 +141,9 @@ fn demo<'w>(arguments: &'w [String]) -> Option<Command<'w>>
     };
     let cards = cards_in(cards.as_str())?;
     let seed = seed_in(seed.as_str())?;
-    Some(Command::Demo { numbers: DemoNumbers { cards, seed } })
+    Some(Command::Demo {
+        numbers: DemoNumbers { cards, seed },
+    })
 }
 
 /// The command of this name with these arguments, where they are as many as it has and its numbers are

@@ -21,7 +21,11 @@ fn required<'a>(alloc: Global, name: &'a str) -> Arg<'a>
 }
 
 /// A simple command of this name, with these arguments.
-fn simple_command<'a>(alloc: Global, name: &'a str, arguments: &[&'a str]) -> Result<Command<'a>, AllocError>
+fn simple_command<'a>(
+    alloc: Global,
+    name: &'a str,
+    arguments: &[&'a str],
+) -> Result<Command<'a>, AllocError>
     ensures { IfOk result (λ command. app_of command ≡ app_with name.entry.now (texts_of arguments.now)) }
 {
     let mut command = Command::new(alloc, name);

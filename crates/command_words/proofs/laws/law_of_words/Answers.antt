@@ -1,4 +1,4 @@
-use Rattle.std.proofs.Common.{◌≡◌, ◌&&◌, ℕ, List, [], ◌∷◌, Bool, true, false, refl, sym, ap, Option, Some, None, option_and_then, if◌then◌else◌}
+use Rattle.std.proofs.Common.{◌≡◌, ◌&&◌, ℕ, List, [], ◌∷◌, Bool, true, false, refl, ap, Option, Some, None, option_and_then, if◌then◌else◌}
 use Rattle.command_words.specs.declared.names.CommandName.{CommandName}
 use Rattle.command_words.specs.ClapCommands.{clap_takes, named}
 use Rattle.command_words.specs.CommandOrders.{CommandOrder, are_arguments, command_of, command_order, order_of, plain_command_of, plain_order}

@@ -1,8 +1,8 @@
-use Rattle.std.proofs.Common.{◌≡◌, ◌∙◌, ◌≤◌, length, take, fold, map, sym, ap, ap₂, arith}
+use Rattle.std.proofs.Common.{◌∙◌, ◌≤◌, length, fold, sym, ap, ap₂, arith}
 use Rattle.std.proofs.lemmas.List.Sums.{fold_more}
 use Rattle.std.proofs.lemmas.List.Folds.{fold-map}
 use Rattle.std.proofs.lemmas.List.{take_all}
-use Rattle.clap.specs.Simple.{app_of, new_app, with_rule}
+use Rattle.clap.specs.Simple.{new_app, with_rule}
 use Rattle.command_words.specs.ClapCommands.{with_argument}
 use Rattle.command_words.proofs.parsing.simple_command.Goals as goal
 

@@ -1,4 +1,4 @@
-use Rattle.std.proofs.Common.{◌≡◌, ◌∙◌, map, sym, true}
+use Rattle.std.proofs.Common.{◌∙◌, map, sym}
 use Rattle.std.specs.String.{string_bytes}
 use Rattle.command_words.proofs.Taken.{follow_taken, made_takes}
 use Rattle.command_words.proofs.parsing.takes.Goals as goal
