@@ -1,0 +1,3 @@
+pub mod ClapCommands
+pub mod CommandOrders
+pub mod HeldCommands

@@ -1,0 +1,5 @@
+// Worked rows of the words of commands.
+#![tactic(auto)]
+
+#[cfg(test)]
+mod commands;
