@@ -1,8 +1,6 @@
 -- Records in a text.
-use Rattle.std.proofs.Common.{◌≡◌, ◌≢◌, ℕ, ◌<◌, ◌≤◌, List, [], ◌∷◌, ◌++◌, length, take, drop, slice_set, All, Some, refl, ap, sym, ◌∙◌, append_assoc, append-nil, arith}
-use Rattle.std.proofs.lemmas.Grind.{common_steps}
+use Rattle.std.proofs.Common.{◌≡◌, ◌≢◌, ℕ, suc, List, [], ◌∷◌, ◌++◌, All, refl, ap, ◌∙◌, arith}
 use Rattle.sil_base.specs.Lines.{onto_lines}
-use Rattle.unit_io.specs.Answers.{overlaid}
 use Rattle.real_units.specs.RecordTexts.{records_in, record_text, text_of, IsOneLine}
 
 -- these bytes, one by one, in front of the first record
@@ -29,9 +27,9 @@ onto_all-more (first ∷ bytes) byte records = ap (onto_lines first) (onto_all-m
 pub records_in-record : (bytes text : List ℕ) → IsOneLine bytes → records_in (record_text bytes ++ text) ≡ bytes ∷ records_in text
 records_in-record [] text line = refl
 records_in-record (byte ∷ bytes) text line =
-    records_in-cons byte (record_text bytes ++ text) line.0 ∙ ap (onto_lines byte) (records_in-record bytes text line.1)
+    records_in-cons byte (record_text bytes ++ text) (line 0 0 (omega arith)) ∙ ap (onto_lines byte) (records_in-record bytes text (λ k d h. line (suc k) d (omega arith)))
 
 pub records_in-text_of : (records : List (List ℕ)) → All IsOneLine records → records_in (text_of records) ≡ records
 records_in-text_of [] lines = refl
 records_in-text_of (bytes ∷ records) lines =
-    records_in-record bytes (text_of records) lines.0 ∙ ap (λ rest. bytes ∷ rest) (records_in-text_of records lines.1)
+    records_in-record bytes (text_of records) (lines 0 [] (omega arith)) ∙ ap (λ rest. bytes ∷ rest) (records_in-text_of records (λ k d h. lines (suc k) d (omega arith)))
