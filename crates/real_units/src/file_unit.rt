@@ -114,8 +114,8 @@ impl<R: Files + Drop> Unit for FileUnit<R> {
     fn write(&mut self, bytes: &[u8]) -> UnitAnswer {
         let opened = match &self.file {
             Standing::Closed => self.make_anew(),
-            Standing::Reading(records) => self.open_behind(records),
-            Standing::Writing(_) => return self.write_on(bytes),
+            Standing::Reading(records) if !records.has_failed() => self.open_behind(records),
+            Standing::Reading(_) | Standing::Writing(_) => return self.write_on(bytes),
         };
         match opened {
             Ok(records) => {
