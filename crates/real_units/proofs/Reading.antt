@@ -1,12 +1,12 @@
 -- A record as it is read byte by byte.
-use Rattle.std.proofs.Common.{◌≡◌, ◌≢◌, ℕ, ◌+◌, ◌^◌, min, zero, suc, subst, inl, inr, ◌<◌, ◌≤◌, List, [], ◌∷◌, ◌++◌, length, take, drop, slice_set, Option, Some, None, IfSome, IsSomeAnd, refl, ap, sym, ◌∙◌, append_assoc, append-nil, arith, length-append}
+use Rattle.std.proofs.Common.{◌≡◌, ◌≢◌, ℕ, ◌-◌, false, true, ◌+◌, ◌^◌, min, zero, suc, subst, inl, inr, ◌<◌, ◌≤◌, List, [], ◌∷◌, ◌++◌, length, take, drop, slice_set, Option, Some, None, IfSome, IsSomeAnd, refl, ap, sym, ◌∙◌, append_assoc, append-nil, arith, length-append}
 use Rattle.std.proofs.lemmas.Grind.{common_steps}
 use Rattle.std.proofs.lemmas.Bool.{cases_lt}
 use Rattle.sil_base.specs.Lines.{onto_lines}
 use Rattle.unit_io.specs.Answers.{overlaid}
-use Rattle.real_units.specs.RecordTexts.{records_in}
+use Rattle.real_units.specs.RecordTexts.{records_in, IsFirstRecord}
 use Rattle.unit_io.specs.declared.answers.ReadAnswer.TheVariants as read
-use Rattle.real_units.specs.RecordStreams.{TakesByte, ReadsRecord}
+use Rattle.real_units.specs.RecordStreams.{MovesPlace, TakesByte, ReadsRecord}
 use Rattle.real_units.specs.declared.record_reader.NextByte.TheVariants as next
 use Rattle.real_units.proofs.Texts.{onto_all, records_in-cons, onto_all-cons, onto_all-none, onto_all-more}
 
@@ -73,15 +73,20 @@ more_so_far None left after count byte old new then so taken other same there pa
 more_so_far (Some text) left after count byte old new then so taken other same there past =
     more_at text left after count byte old new then so other (subst (λ known. IfSome known (λ list. TakesByte list (next.Byte byte) after)) so.left_is taken) same there past
 
-ended_at : (text : List ℕ) (left after : Option (List ℕ)) (count byte got : ℕ) (old new : List ℕ) (so : SoFar text count left old new) → byte ≡ 10 → IsSomeAnd after (λ more. so.rest ≡ byte ∷ more) → length new ≡ length old → count ≤ 2 ^ 30 → got ≡ min count (length new) → ReadsRecord text (read.Rec got) old new after
+ended_at : (text : List ℕ) (left after : Option (List ℕ)) (count byte got : ℕ) (old new : List ℕ) (so : SoFar text count left old new) → byte ≡ 10 → IsSomeAnd after (λ more. so.rest ≡ byte ∷ more) → length new ≡ length old → count ≤ 2 ^ 30 → got ≡ min count (length new) → ReadsRecord text (read.Rec got) old new after false
 ended_at text left None count byte got old new so is taken same most answer = absurd taken
 ended_at text left (Some rest) count byte got old new so is taken same most answer =
     let records : records_in text ≡ so.bytes ∷ records_in rest =
         so.records ∙ ap (λ list. onto_all so.bytes (records_in list)) (taken ∙ ap (λ first. first ∷ rest) is) ∙ onto_all-cons so.bytes [] (records_in rest) ∙ ap (λ first. first ∷ records_in rest) (append-nil so.bytes) in
-    (so.bytes, records, omega (arith, so.count_is), omega (arith, so.count_is), so.copied)
+    let first : IsFirstRecord text so.bytes rest false = record {
+          text_is = rw append_assoc (so.text_is ∙ ap (λ list. so.bytes ++ list) (taken ∙ ap (λ first. first ∷ rest) is));
+          last = λ e. absurd (cc);
+          records = records;
+        } in
+    (so.bytes, first, omega (arith, so.count_is), omega (arith, so.count_is), so.copied)
 
 -- an LF ends the record
-pub ended_by_lf : (known left after : Option (List ℕ)) (count byte got : ℕ) (old new : List ℕ) → IfSome known (λ text. SoFar text count left old new) → IfSome left (λ text. TakesByte text (next.Byte byte) after) → byte ≡ 10 → length new ≡ length old → count ≤ 2 ^ 30 → got ≡ min count (length new) → IfSome known (λ text. ReadsRecord text (read.Rec got) old new after)
+pub ended_by_lf : (known left after : Option (List ℕ)) (count byte got : ℕ) (old new : List ℕ) → IfSome known (λ text. SoFar text count left old new) → IfSome left (λ text. TakesByte text (next.Byte byte) after) → byte ≡ 10 → length new ≡ length old → count ≤ 2 ^ 30 → got ≡ min count (length new) → IfSome known (λ text. ReadsRecord text (read.Rec got) old new after false)
 ended_by_lf None left after count byte got old new so taken is same most answer = tt
 ended_by_lf (Some text) left after count byte got old new so taken is same most answer =
     ended_at text left after count byte got old new so is (subst (λ known. IfSome known (λ list. TakesByte list (next.Byte byte) after)) so.left_is taken) same most answer
@@ -90,16 +95,21 @@ onto_all-some : (bytes : List ℕ) → length bytes ≢ 0 → onto_all bytes [] 
 onto_all-some [] some = absurd (some refl)
 onto_all-some (byte ∷ bytes) some = onto_all-none byte bytes
 
-last_at : (text : List ℕ) (left after : Option (List ℕ)) (count got : ℕ) (old new : List ℕ) (so : SoFar text count left old new) → so.rest ≡ [] → after ≡ Some [] → count ≢ 0 → length new ≡ length old → count ≤ 2 ^ 30 → got ≡ min count (length new) → ReadsRecord text (read.Rec got) old new after
+last_at : (text : List ℕ) (left after : Option (List ℕ)) (count got : ℕ) (old new : List ℕ) (so : SoFar text count left old new) → so.rest ≡ [] → after ≡ Some [] → count ≢ 0 → length new ≡ length old → count ≤ 2 ^ 30 → got ≡ min count (length new) → ReadsRecord text (read.Rec got) old new after true
 last_at text left None count got old new so none ends some same most answer = absurd (cc)
 last_at text left (Some rest) count got old new so none ends some same most answer =
     let empty : [] ≡ rest = cc in
     let records : records_in text ≡ so.bytes ∷ records_in rest =
         so.records ∙ ap (λ list. onto_all so.bytes (records_in list)) none ∙ onto_all-some so.bytes (λ e. some (sym so.count_is ∙ e)) ∙ ap (λ list. so.bytes ∷ records_in list) empty in
-    (so.bytes, records, omega (arith, so.count_is), omega (arith, so.count_is), so.copied)
+    let first : IsFirstRecord text so.bytes rest true = record {
+          text_is = so.text_is ∙ ap (λ list. so.bytes ++ list) (none ∙ empty);
+          last = λ _. sym empty;
+          records = records;
+        } in
+    (so.bytes, first, omega (arith, so.count_is), omega (arith, so.count_is), so.copied)
 
 -- the end of the text ends the record
-pub ended_by_end : (known left after : Option (List ℕ)) (count got : ℕ) (old new : List ℕ) → IfSome known (λ text. SoFar text count left old new) → IfSome left (λ text. TakesByte text next.End after) → count ≢ 0 → length new ≡ length old → count ≤ 2 ^ 30 → got ≡ min count (length new) → IfSome known (λ text. ReadsRecord text (read.Rec got) old new after)
+pub ended_by_end : (known left after : Option (List ℕ)) (count got : ℕ) (old new : List ℕ) → IfSome known (λ text. SoFar text count left old new) → IfSome left (λ text. TakesByte text next.End after) → count ≢ 0 → length new ≡ length old → count ≤ 2 ^ 30 → got ≡ min count (length new) → IfSome known (λ text. ReadsRecord text (read.Rec got) old new after true)
 ended_by_end None left after count got old new so taken some same most answer = tt
 ended_by_end (Some text) left after count got old new so taken some same most answer =
     let at = subst (λ known. IfSome known (λ list. TakesByte list next.End after)) so.left_is taken in

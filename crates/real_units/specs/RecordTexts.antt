@@ -1,5 +1,5 @@
 -- Texts of records: which bytes make a record, and which bytes a record makes.
-use Rattle.std.specs.Prelude.{◌≢◌, ℕ, ◌==◌, List, [], ◌∷◌, ◌++◌, All, if◌then◌else◌}
+use Rattle.std.specs.Prelude.{◌≡◌, ◌≢◌, ℕ, ◌==◌, Bool, true, List, [], ◌∷◌, ◌++◌, All, if◌then◌else◌}
 use Rattle.sil_base.specs.Lines.{onto_lines}
 
 -- the records of a text: one ends before an LF, or at the end of the text where it isn't empty
@@ -15,6 +15,12 @@ record_text bytes = bytes ++ 10 ∷ []
 abbrev pub text_of : List (List ℕ) → List ℕ
 text_of [] = []
 text_of (bytes ∷ records) = record_text bytes ++ text_of records
+
+-- the first record of a text, and what is left behind it; it is unended where it lacks its LF
+pub record IsFirstRecord (text bytes rest : List ℕ) (unended : Bool) : Type 0 where
+  pub text_is : text ≡ (if unended then bytes else record_text bytes) ++ rest
+  pub last : unended ≡ true → rest ≡ []
+  pub records : records_in text ≡ bytes ∷ records_in rest
 
 -- no byte is an LF
 abbrev pub IsOneLine : List ℕ → Type 0

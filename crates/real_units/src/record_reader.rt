@@ -31,11 +31,12 @@ pub struct RecordReader<R> {
 }
 
 impl<R: Read + Drop> RecordReader<R> {
-    ghost use Rattle.real_units.specs.RecordStreams.{bytes_left, reader_failed, TakesByte, ReadsRecord};
+    ghost use Rattle.real_units.specs.RecordStreams.{bytes_left, reader_failed, reader_place, reader_unended, place_after, MovesPlace, TakesByte, ReadsRecord};
 
     /// A reader of these bytes. The error is want of memory.
     pub fn new(alloc: Global, input: R) -> io::Result<RecordReader<R>>
         ensures left { IfOk result (λ r. bytes_left R.remaining r ≡ R.remaining input) }
+        ensures place { IfOk result (λ r. reader_place r ≡ 0) }
         ensures failed { IfOk result (λ r. reader_failed r ≡ false) }
     {
         Ok(RecordReader {
@@ -47,12 +48,16 @@ impl<R: Read + Drop> RecordReader<R> {
     }
 
     /// How many bytes the records that were read had, with their LFs.
-    pub fn place(&self) -> u64 {
+    pub fn place(&self) -> u64
+        ensures { result ≡ reader_place self.now }
+    {
         self.place
     }
 
     /// Whether the last record that was read ended without an LF.
-    pub fn is_unended(&self) -> bool {
+    pub fn is_unended(&self) -> bool
+        ensures { result ≡ reader_unended self.now }
+    {
         self.unended
     }
 
@@ -67,6 +72,7 @@ impl<R: Read + Drop> RecordReader<R> {
     fn next_byte(&mut self) -> NextByte
         ensures taken { IfSome (bytes_left R.remaining self.old)
             (λ text. TakesByte text result (bytes_left R.remaining self.new)) }
+        ensures place { reader_place self.new ≡ place_after result (reader_place self.old) }
     {
         let mut one = [0u8; 1];
         for _ in 0..u64::MAX {
@@ -90,7 +96,9 @@ impl<R: Read + Drop> RecordReader<R> {
     pub fn read(&mut self, into: &mut [u8]) -> ReadAnswer
         ensures reads { IfSome (bytes_left R.remaining self.old)
             (λ text. ReadsRecord text result into.old into.new
-                (bytes_left R.remaining self.new)) }
+                (bytes_left R.remaining self.new) (reader_unended self.new)) }
+        ensures place { MovesPlace (bytes_left R.remaining self.old)
+            (bytes_left R.remaining self.new) (reader_place self.old) (reader_place self.new) }
         ensures fits { ReadFits result (length into.old) }
         ensures failing { reader_failed self.old ≡ true → result ≡ ReadAnswer.Failed }
         ensures failed { result ≡ ReadAnswer.Failed → reader_failed self.new ≡ true }
@@ -112,7 +120,10 @@ impl<R: Read + Drop> RecordReader<R> {
                     self.unended = true;
                     return ReadAnswer::Rec(count.min(into.len()));
                 }
-                NextByte::Failed => break,
+                NextByte::Failed => {
+                    self.failed = true;
+                    return ReadAnswer::Failed;
+                }
             }
         }
         self.failed = true;
