@@ -4,4 +4,6 @@
 #[cfg(test)]
 mod formats;
 #[cfg(test)]
+mod streams;
+#[cfg(test)]
 mod units;

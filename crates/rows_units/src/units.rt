@@ -36,7 +36,7 @@ fn holds<U: Unit>(unit: &U, want: &[&[u8]]) -> bool {
 
 /// A call of a unit, with what a read leaves of four dots.
 #[derive(Clone, Copy)]
-enum Call {
+pub enum Call {
     Read(ReadAnswer, &'static [u8; 4]),
     Write(&'static [u8], UnitAnswer),
     Rewind(UnitAnswer),
@@ -47,7 +47,7 @@ enum Call {
 
 impl Call {
     /// Makes the call, and says whether it answers so, or that memory ran out.
-    fn answers<U: Unit>(self, unit: &mut U) -> Result<bool, AllocError> {
+    pub fn answers<U: Unit>(self, unit: &mut U) -> Result<bool, AllocError> {
         Ok(match self {
             Call::Read(answer, left) => {
                 let mut into = *b"....";
