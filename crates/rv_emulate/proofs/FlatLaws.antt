@@ -8,7 +8,6 @@ use Rattle.std.proofs.lemmas.Int.{of_z-to_z}
 use Rattle.std.proofs.lemmas.Option.{slice_get-map}
 use Rattle.std.proofs.lemmas.List.{length-map}
 use Rattle.sil_base.specs.declared.places.TheConstants.{FIRST_WORD}
-use Rattle.rv_isa.specs.declared.instr.Instr.{Instr}
 use Rattle.rv_isa.specs.Decoded.{decoded}
 use Rattle.rv_emulate.specs.declared.flat.Flat.{Flat}
 use Rattle.rv_emulate.specs.FlatInstrs.{upper_bits}

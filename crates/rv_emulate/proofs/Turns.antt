@@ -1,5 +1,5 @@
 -- Turns and rounds of a run.
-use Rattle.std.proofs.Common.{◌≡◌, ℕ, zero, suc, ◌+◌, ◌-◌, ◌*◌, ◌<◌, ◌≤◌, Option, Some, None, Result, Ok, Err, refl, sym, ap, subst, ◌∙◌, arith}
+use Rattle.std.proofs.Common.{◌≡◌, ℕ, zero, suc, ◌+◌, ◌-◌, ◌<◌, ◌≤◌, Some, None, Ok, Err, refl, sym, ap, subst, ◌∙◌, arith}
 use Rattle.rv_emulate.specs.declared.code.Code.{Code}
 use Rattle.rv_emulate.specs.declared.storage.Storage.{Storage}
 use Rattle.rv_emulate.specs.declared.end.CpuEnd.{CpuEnd}

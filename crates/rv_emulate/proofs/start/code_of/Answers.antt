@@ -1,4 +1,4 @@
-use Rattle.std.proofs.Common.{subst, sym, ap, length, arith}
+use Rattle.std.proofs.Common.{subst, sym, arith}
 use Rattle.rv_emulate.specs.Ranges.{Rises}
 use Rattle.rv_emulate.proofs.Places.{rising}
 use Rattle.rv_emulate.proofs.FlatLaws.{as_many}
