@@ -17,7 +17,7 @@ use Rattle.rv_emulate.specs.EmulatorStates.{State, Outcome, On, Ended, register,
 use Rattle.rv_emulate.specs.Ecalls.{call, is_unit_call}
 use Rattle.rv_emulate.specs.EmulatorSteps.{step, act, i_step, answer, ended, ecall, load_step, loads, loads_signed, store_step, with_instr, with_word, word_at, extended_from, s_width, sum64}
 use Rattle.rv_emulate.specs.EmulatorRuns.{run, on_state}
-use Rattle.rv_emulate.specs.CpuView.{image_of, instr_at, with_fetched, code_step, code_run}
+use Rattle.rv_emulate.specs.CpuView.{image_of, instr_at, instr_of, with_fetched, code_step, code_run}
 
 -- the state, or the end, with other tapes
 abbrev pub taped : Tapes → State → State
@@ -29,7 +29,7 @@ taped_outcome tapes (Ended e t) = Ended e tapes
 
 -- the image has this code
 pub record IsCodeOf (code : Code) (image : Image) : Type 0 where
-  pub instrs : code.instrs.items ≡ map decoded image.words
+  pub instrs : map instr_of code.flats.items ≡ map decoded image.words
   pub constants : code.constants.items ≡ image.constants
   pub count : length (image_of code).statements ≡ length image.statements
 

@@ -3,5 +3,5 @@ pub mod LittleNumbers
 pub mod Turns
 pub mod Alike
 pub mod Standing
-pub mod Ranges
+pub mod FlatLaws
 pub mod Places

@@ -1,5 +1,5 @@
 -- What the code's values stand for.
-use Rattle.std.specs.Prelude.{◌≡◌, ℕ, zero, suc, ◌-◌, ◌/◌, ◌%◌, Bool, true, false, ◌&&◌, ◌==◌, nat_le, List, [], map, Option, Some, None, if◌then◌else◌, slice_get}
+use Rattle.std.specs.Prelude.{◌≡◌, ℕ, zero, suc, ◌-◌, ◌/◌, ◌%◌, Bool, true, false, ◌&&◌, ◌==◌, nat_le, List, [], map, Option, Some, None, Result, Ok, Err, if◌then◌else◌, slice_get}
 use Rattle.layout_params.specs.Parameters.{standard}
 use Rattle.sil_macros.specs.declared.names.Macro.TheVariants.{Endex}
 use Rattle.rv_isa.specs.declared.instr.Instr.{Instr}
@@ -7,12 +7,15 @@ use Rattle.sil_base.specs.declared.places.TheConstants.{FIRST_WORD}
 use Rattle.image_file.specs.Image.{Image, StatementEntry}
 use Rattle.rv_emulate.specs.declared.code.Code.{Code}
 use Rattle.rv_emulate.specs.declared.memory.Regions.{Regions}
+use Rattle.rv_emulate.specs.declared.flat.Flat.{Flat}
+use Rattle.rv_emulate.specs.declared.storage.Storage.{Storage}
 use Rattle.rv_emulate.specs.declared.hart.Hart.{Hart}
 use Rattle.rv_emulate.specs.declared.end.CpuEnd.{CpuEnd}
 use Rattle.rv_emulate.specs.declared.end.CpuEnd.TheVariants.{Fetch}
 use Rattle.rv_emulate.specs.declared.end.CpuStep.{CpuStep}
 use Rattle.rv_emulate.specs.declared.end.CpuStep.TheVariants as steps
 use Rattle.rv_emulate.specs.EmulatorMemory.{Memory}
+use Rattle.rv_emulate.specs.FlatInstrs.{instr_by}
 use Rattle.rv_emulate.specs.Cpus.{CpuState}
 use Rattle.rv_emulate.specs.EmulatorStates.{State, Outcome, On, Ended}
 use Rattle.rv_emulate.specs.EmulatorSteps.{ends_with, with_instr}
@@ -21,20 +24,27 @@ use Rattle.rv_emulate.specs.EmulatorRuns.{on_state}
 abbrev pub memory_of : Regions → Memory
 memory_of m = record { cells = m.cells.items; kinds = m.kinds.items; tables = m.tables.items; scratch = m.scratch.items }
 
+-- the instruction that a flat one stands for, none where it is that of a word that is no instruction
+abbrev pub instr_of : Flat → Option Instr
+instr_of f = instr_by f.what f.rd f.rs1 f.rs2 f.imm
+
 -- without tapes, which no instruction reads yet
+abbrev pub state_at : ℕ → Storage → State
+state_at pc s = record { pc = pc; registers = s.registers; memory = memory_of s.memory; tapes = []; failed = s.failed }
+
 abbrev pub state_of : Hart → State
-state_of h = record { pc = h.pc; registers = h.registers; memory = memory_of h.memory; tapes = []; failed = h.failed }
+state_of h = state_at h.pc h.storage
 
 -- what contracts see of a Cpu
 abbrev pub view_of : Code → Hart → Option CpuEnd → CpuState
 view_of c h ended = record {
-  code = c.instrs.items;
+  code = map instr_of c.flats.items;
   constants = c.constants.items;
   places = c.places.items;
   pc = h.pc;
-  registers = h.registers;
-  memory = memory_of h.memory;
-  failed = h.failed;
+  registers = h.storage.registers;
+  memory = memory_of h.storage.memory;
+  failed = h.storage.failed;
   ended = ended;
 }
 
@@ -63,7 +73,7 @@ with_fetched image (Some o) s = with_instr image o s
 
 -- a step, by the instructions of the words
 unfoldable pub code_step : Code → State → Outcome
-code_step c s = with_fetched (image_of c) (instr_at c.instrs.items s.pc) s
+code_step c s = with_fetched (image_of c) (instr_at (map instr_of c.flats.items) s.pc) s
 
 -- n steps, or fewer to the end
 unfoldable pub code_run : Code → ℕ → State → Outcome
@@ -80,6 +90,12 @@ abbrev pub Steps : Outcome → CpuStep → State → State → Type 0
 Steps (On t) steps.Next old new = t ≡ new
 Steps (Ended e tapes) (steps.Ended d) old new = (e ≡ Some d) × (tapes ≡ new.tapes) × (new ≡ old)
 Steps _ _ old new = ⊥
+
+-- the step at a place is made and the next place answered, or the run ends and nothing changes
+abbrev pub Turns : Outcome → Result ℕ CpuEnd → ℕ → Storage → Storage → Type 0
+Turns (On t) (Ok to) pc old new = t ≡ state_at to new
+Turns (Ended e tapes) (Err d) pc old new = (e ≡ Some d) × (tapes ≡ []) × (state_at pc new ≡ state_at pc old)
+Turns _ _ pc old new = ⊥
 
 -- the run has ended so, or has come to this state
 abbrev pub Runs : Outcome → Option CpuEnd → State → Type 0

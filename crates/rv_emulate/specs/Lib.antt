@@ -1,6 +1,7 @@
 pub mod EmulatorMemory
 pub mod EmulatorStates
 pub mod Ranges
+pub mod FlatInstrs
 pub mod InstrValues
 pub mod Ecalls
 pub mod EmulatorSteps

@@ -4,6 +4,7 @@ ghost use Rattle.std.specs.Prelude.{◌≡◌, ◌⊎◌, ◌<◌, ◌^◌, leng
 ghost use Rattle.sil_base.specs.Bytes.{number};
 
 /// The number in 1, 2, 4 or 8 bytes.
+#[inline(always)]
 pub(crate) fn number_of(bytes: &[u8]) -> u64
     requires { (length bytes.now ≡ 1) ⊎ (length bytes.now ≡ 2) ⊎ (length bytes.now ≡ 4) ⊎ (length bytes.now ≡ 8) }
     ensures same { result ≡ number bytes.now }

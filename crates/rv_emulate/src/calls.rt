@@ -7,8 +7,8 @@ ghost use Rattle.rv_emulate.specs.Ecalls.{call, can_take, is_unit_call, unit_fau
 ghost use Rattle.rv_emulate.specs.CpuView.{memory_of};
 
 use crate::end::CpuEnd;
-use crate::hart::Hart;
 use crate::memory::{Regions, holds};
+use crate::storage::Storage;
 use sil_base::{
     FIRST_CELL, FIRST_CONSTANT, FIRST_KIND, FIRST_SCRATCH, FIRST_TABLE, MAX_FORMAT_BYTES,
     MAX_LIST_ITEMS, MAX_VALUE_CHARACTERS,
@@ -17,7 +17,7 @@ use sil_base::{
 /// The answer of a call on a unit that is absent.
 pub(crate) const ABSENT: u64 = 4;
 
-impl Hart {
+impl Storage {
     /// Whether this is a call on a unit that can be made.
     pub(crate) fn is_unit_call(&self, constants: &[u8]) -> bool
         ensures { result ≡ is_unit_call constants.now (memory_of self.now.memory) self.now.registers }
@@ -35,14 +35,14 @@ impl Hart {
         }
     }
 
-    /// The end of any other call, under this number of statements.
-    pub(crate) fn end_of_call(&self, count: u64) -> CpuEnd
+    /// The end of any other call at `pc`, under this number of statements.
+    pub(crate) fn end_of_call(&self, count: u64, pc: u64) -> CpuEnd
         requires { count < 2 ^ 32 }
-        ensures { result ≡ call count (register self.now.registers 17) (register self.now.registers 10) (register self.now.registers 26) self.now.failed self.now.pc }
+        ensures { result ≡ call count (register self.now.registers 17) (register self.now.registers 10) (register self.now.registers 26) self.now.failed pc }
     {
         let statement = self.registers[26];
         if self.registers[17] != 1 || statement > count {
-            return CpuEnd::BadCall(self.pc);
+            return CpuEnd::BadCall(pc);
         }
         match self.registers[10] {
             0 => CpuEnd::Exit(0),
@@ -50,18 +50,18 @@ impl Hart {
             2 => CpuEnd::Trap(statement as u32),
             3 => CpuEnd::Undefined(statement as u32),
             4 => CpuEnd::Budget,
-            5 => self.unit_fault(statement as u32),
-            _ => CpuEnd::BadCall(self.pc),
+            5 => self.unit_fault(statement as u32, pc),
+            _ => CpuEnd::BadCall(pc),
         }
     }
 
     /// The end at a statement where the last unit call failed.
-    fn unit_fault(&self, statement: u32) -> CpuEnd
-        ensures { result ≡ unit_fault statement self.now.failed self.now.pc }
+    fn unit_fault(&self, statement: u32, pc: u64) -> CpuEnd
+        ensures { result ≡ unit_fault statement self.now.failed pc }
     {
         match self.failed {
             Some(unit) => CpuEnd::UnitFault(statement, unit),
-            None => CpuEnd::BadCall(self.pc),
+            None => CpuEnd::BadCall(pc),
         }
     }
 }

@@ -75,7 +75,7 @@ impl Cpu {
     pub fn met(&self) -> Option<u32>
         ensures { (image : Image) (tapes : Tapes) → IsOf image self.now → result ≡ met_now image (state self.now tapes) }
     {
-        if self.hart.registers[27] == 0 {
+        if self.hart.storage.registers[27] == 0 {
             return None;
         }
         statement_at(&self.code.places, self.hart.pc)

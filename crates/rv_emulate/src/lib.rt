@@ -2,17 +2,21 @@
 #![tactic(auto)]
 
 mod access;
+mod act;
 mod bytes;
 mod calls;
 mod code;
 mod cpu;
 mod end;
+mod flat;
 mod hart;
 mod memory;
 mod run;
 mod start;
 mod step;
+mod storage;
 mod values;
+mod what;
 
 pub use cpu::Cpu;
 pub use end::{CpuEnd, CpuStep};

@@ -1,7 +1,10 @@
 // The regions of memory.
 
-ghost use Rattle.std.specs.Prelude.{◌≡◌, ◌<◌, ◌^◌, length};
+ghost use Rattle.std.specs.Prelude.{◌≡◌, ◌≤◌, ◌^◌, length};
 ghost use Rattle.rv_emulate.specs.EmulatorMemory.{holds};
+
+/// The bytes that a region may have: its first place is a multiple of them.
+pub(crate) const REGION_BYTES: u64 = 1 << 26;
 
 /// The regions that a store may change.
 #[derive(Drop)]
@@ -10,6 +13,10 @@ pub(crate) struct Regions {
     pub(crate) kinds: Vec<u8>,
     pub(crate) tables: Vec<u8>,
     pub(crate) scratch: Vec<u8>,
+    ghost few_cells: { length cells.items ≤ 2 ^ 26 },
+    ghost few_kinds: { length kinds.items ≤ 2 ^ 26 },
+    ghost few_tables: { length tables.items ≤ 2 ^ 26 },
+    ghost few_scratch: { length scratch.items ≤ 2 ^ 26 },
 }
 
 /// Whether `n` bytes at an address lie in the region of these bytes, whose first place is `first`.

@@ -3,20 +3,40 @@
 ghost use Rattle.rv_emulate.specs.CpuView.{code_run, state_of, Runs};
 
 use crate::code::Code;
-use crate::end::{CpuEnd, CpuStep};
+use crate::end::CpuEnd;
 use crate::hart::Hart;
+
+/// The steps of a round, which are counted in 64 bits.
+const ROUND: u128 = 1 << 32;
 
 impl Hart {
     /// Makes at most `budget` steps: the end, or none where there was none.
     pub(crate) fn run(&mut self, code: &Code, budget: u128) -> Option<CpuEnd>
         ensures { Runs (code_run code.now budget (state_of self.old)) result (state_of self.new) }
     {
-        for turn in 0..budget {
-            match self.step(code) {
-                CpuStep::Next => {}
-                CpuStep::Ended(end) => return Some(end),
+        for round in 0..budget / ROUND {
+            if let Some(end) = self.round(code, ROUND as u64) {
+                return Some(end);
             }
         }
+        self.round(code, (budget % ROUND) as u64)
+    }
+
+    /// Makes at most so many steps: the end, or none where there was none.
+    fn round(&mut self, code: &Code, steps: u64) -> Option<CpuEnd>
+        ensures { Runs (code_run code.now steps (state_of self.old)) result (state_of self.new) }
+    {
+        let mut pc = self.pc;
+        for turn in 0..steps {
+            match self.storage.turn(code, pc) {
+                Ok(to) => pc = to,
+                Err(end) => {
+                    self.pc = pc;
+                    return Some(end);
+                }
+            }
+        }
+        self.pc = pc;
         None
     }
 }

@@ -7,15 +7,17 @@ ghost use Rattle.image_file.specs.Image.{IsImage};
 ghost use Rattle.rv_emulate.specs.EmulatorStates.{On, cell_total, first_memory, first_registers, padded, start};
 ghost use Rattle.rv_emulate.specs.EmulatorRuns.{budget, budget_of};
 ghost use Rattle.rv_emulate.specs.Cpus.{IsOf, stands};
-ghost use Rattle.rv_emulate.specs.CpuView.{memory_of};
+ghost use Rattle.rv_emulate.specs.CpuView.{instr_of, memory_of};
 
 use crate::code::Code;
 use crate::cpu::Cpu;
+use crate::flat::{Flat, flat_of};
 use crate::hart::Hart;
 use crate::memory::Regions;
+use crate::storage::Storage;
 use image_file::Image;
 use layout_params::Layout;
-use rv_isa::{Instr, decode};
+use rv_isa::decode;
 use sil_base::{
     FIRST_WORD, MAX_CELLS, MAX_STEPS, SCRATCH_BYTES, STATEMENT_INSTRUCTIONS, VISIT_INSTRUCTIONS,
 };
@@ -35,9 +37,11 @@ impl Cpu {
             code,
             hart: Hart {
                 pc: FIRST_WORD,
-                registers: first_registers(n),
-                memory,
-                failed: None,
+                storage: Storage {
+                    registers: first_registers(n),
+                    memory,
+                    failed: None,
+                },
             },
             ended: None,
         })
@@ -64,7 +68,8 @@ fn budget_of(n: u64, cells: u64, descr: u64) -> u128
 
 /// The bound in s9 and s11.
 fn first_registers(n: u64) -> [u64; 32]
-    ensures { result ≡ first_registers n }
+    ensures same { result ≡ first_registers n }
+    ensures zero { slice_index result 0 ≡ 0 }
 {
     let mut registers = [0; 32];
     registers[25] = n;
@@ -81,6 +86,7 @@ fn first_memory(alloc: Global, image: &Image) -> Result<Regions, AllocError>
 
 /// The first memory, with these scratch bytes.
 fn regions(alloc: Global, image: &Image, scratch: Vec<u8>) -> Result<Regions, AllocError>
+    requires { length scratch.items ≤ 2 ^ 26 }
     ensures { IfOk result (λ regions. memory_of regions ≡ record (first_memory image.now) { scratch = scratch.items }) }
 {
     let cells = first_cells(alloc, image)?;
@@ -96,7 +102,7 @@ fn regions(alloc: Global, image: &Image, scratch: Vec<u8>) -> Result<Regions, Al
 
 fn first_cells(alloc: Global, image: &Image) -> Result<Vec<u8>, AllocError>
     ensures cells { IfOk result (λ v. v.items ≡ padded (cell_total image.now * image.now.settings.sizes.descr) image.now.cells) }
-    ensures few { IfOk result (λ v. length v.items < 2 ^ 28) }
+    ensures few { IfOk result (λ v. length v.items ≤ 2 ^ 26) }
     ensures legal { IsImage image.now }
 {
     padded(alloc, image.cells(), cell_bytes(image) as usize)
@@ -105,7 +111,7 @@ fn first_cells(alloc: Global, image: &Image) -> Result<Vec<u8>, AllocError>
 /// The bytes of all cells.
 fn cell_bytes(image: &Image) -> u64
     ensures same { result ≡ cell_total image.now * image.now.settings.sizes.descr }
-    ensures few { result < 2 ^ 28 }
+    ensures few { result ≤ 2 ^ 26 }
     ensures legal { IsImage image.now }
 {
     image.cell_total() * image.numbers().descr()
@@ -113,7 +119,7 @@ fn cell_bytes(image: &Image) -> u64
 
 fn first_kinds(alloc: Global, image: &Image) -> Result<Vec<u8>, AllocError>
     ensures kinds { IfOk result (λ v. v.items ≡ padded (cell_total image.now) image.now.kinds) }
-    ensures few { IfOk result (λ v. length v.items < 2 ^ 28) }
+    ensures few { IfOk result (λ v. length v.items ≤ 2 ^ 26) }
 {
     padded(alloc, image.kinds(), image.cell_total() as usize)
 }
@@ -139,23 +145,27 @@ fn zeros(alloc: Global, size: usize) -> Result<Vec<u8>, AllocError>
 
 /// What a run reads of the image: its words are decoded, and the rest is copied.
 fn code_of(alloc: Global, image: &Image) -> Result<Code, AllocError>
-    ensures code { IfOk result (λ code. code.instrs.items ≡ map decoded image.now.words) }
+    ensures code { IfOk result (λ code. map instr_of code.flats.items ≡ map decoded image.now.words) }
     ensures constants { IfOk result (λ code. code.constants.items ≡ image.now.constants) }
     ensures places { IfOk result (λ code. code.places.items ≡ map (λ e. e.place) image.now.statements) }
 {
     let _ = image.numbers();
     Ok(Code {
-        instrs: instrs(alloc, image.words())?,
+        flats: flats(alloc, image.words())?,
         constants: Vec::from_slice(alloc, image.constants())?,
         places: places(alloc, image)?,
     })
 }
 
 /// The instruction of each word.
-fn instrs(alloc: Global, words: &[u32]) -> Result<Vec<Option<Instr>>, AllocError>
-    ensures { IfOk result (λ v. v.items ≡ map decoded words.now) }
+fn flats(alloc: Global, words: &[u32]) -> Result<Vec<Flat>, AllocError>
+    ensures { IfOk result (λ v. map instr_of v.items ≡ map decoded words.now) }
 {
-    words.iter().map(|word| decode(*word)).collect(alloc)
+    let mut flats = Vec::with_capacity(alloc, words.len())?;
+    for k in 0..words.len() {
+        flats.push(flat_of(decode(words[k])))?;
+    }
+    Ok(flats)
 }
 
 /// The places of the statements.

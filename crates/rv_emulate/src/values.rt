@@ -8,6 +8,7 @@ ghost use Rattle.rv_emulate.specs.InstrValues.{r_value, extended, extended_from,
 
 use rv_isa::{BOp, ROp};
 
+#[inline(always)]
 pub(crate) fn value_of_r(op: ROp, x: u64, y: u64) -> u64
     ensures { result ≡ r_value op x y }
 {
@@ -157,6 +158,7 @@ fn remuw(x: u32, y: u32) -> u64
     if y == 0 { extend(x) } else { extend(x % y) }
 }
 
+#[inline(always)]
 pub(crate) fn is_taken(op: BOp, x: u64, y: u64) -> bool
     ensures { result ≡ taken op x y }
 {
@@ -190,15 +192,8 @@ pub(crate) fn extend_bytes(width: usize, n: u64) -> u64
     }
 }
 
-/// An immediate of 12 or 13 bits in 64.
-pub(crate) fn wide(imm: i16) -> u64
-    ensures { result ≡ twos 64 imm }
-{
-    i64::from(imm).cast_unsigned()
-}
-
-/// An immediate of 21 bits in 64.
-pub(crate) fn wide_jump(imm: i32) -> u64
+/// An immediate in 64 bits.
+pub(crate) fn wide(imm: i32) -> u64
     ensures { result ≡ twos 64 imm }
 {
     i64::from(imm).cast_unsigned()

@@ -1,12 +1,11 @@
-use Rattle.std.proofs.Common.{arith}
-use Rattle.rv_emulate.proofs.Turns.{one_turn, last_turn, no_turn}
+use Rattle.std.proofs.Common.{◌-◌, ◌+◌, ◌*◌, ◌^◌, arith}
+use Rattle.rv_emulate.proofs.Turns.{one_round, last_round}
 use Rattle.rv_emulate.proofs.hart.Hart.run.Goals as goal
 
-pub loop-turn-preserved : goal.loop-turn-preserved
-loop-turn-preserved c = one_turn _ _ _ _ _ _ (omega arith) c.in-Next.ensures c.loop-turn.invariant
+pub loop-round-preserved : goal.loop-round-preserved
+loop-round-preserved c =
+    one_round _ (2 ^ 32) (c.args.budget - c.loop-round.round * 2 ^ 32) (c.args.budget - (c.loop-round.round + 1) * 2 ^ 32) _ _ _ (omega (arith, c.loop-round-test.true)) c.in_default.ensures c.loop-round.invariant
 
-pub returns-in-Ended : goal.returns-in-Ended
-returns-in-Ended c = last_turn _ _ _ _ _ _ _ (omega arith) c.in-Ended.ensures c.loop-turn.invariant
-
-pub returns : goal.returns
-returns c = no_turn _ _ _ _ _ (omega arith) c.loop-turn.invariant
+pub returns-in-Some : goal.returns-in-Some
+returns-in-Some c =
+    last_round _ (2 ^ 32) (c.args.budget - c.loop-round.round * 2 ^ 32) (c.args.budget - (c.loop-round.round + 1) * 2 ^ 32) _ _ _ _ (omega (arith, c.loop-round-test.true)) c.in-Some.ensures c.loop-round.invariant
