@@ -1,0 +1,4 @@
+pub mod ReturnClause
+pub mod SavedTops
+pub mod ReturnParts
+pub mod Returning
