@@ -1,5 +1,5 @@
 -- What the halves of calls are to do: an RCALL's own part and its return part, and an RRTURN.
-use Rattle.std.specs.Prelude.{◌≡◌, ℕ, ◌+◌, ◌<◌, ◌≤◌, List, length, Option, Some, None, Bool, true, false, ℤ, pos, if◌then◌else◌, slice_set}
+use Rattle.std.specs.Prelude.{◌≡◌, ℕ, ◌+◌, ◌<◌, ◌≤◌, List, length, Option, Some, None, true, false, ℤ, pos, if◌then◌else◌, slice_set}
 use Rattle.layout_params.specs.Parameters.{Parameters}
 use Rattle.sil_macros.specs.declared.names.Macro.TheVariants.{Rcall, Rrturn}
 use Rattle.sil_model.specs.declared.end.End.TheVariants as ends
@@ -19,7 +19,7 @@ use Rattle.sil_micro.specs.declared.op.Op.{Op}
 use Rattle.sil_micro.specs.Codes.{MicroCode, appended, begun}
 use Rattle.sil_micro.specs.Expands.{CanBegin, Does, IsPiece, Makes, Meets, at, cost_at, site_at}
 use Rattle.sil_micro.specs.MicroStates.{Setting, Micro}
-use Rattle.sil_micro.specs.MicroWays.{Way, Came, Returned, Ended, IsStuck, Unfinished, way}
+use Rattle.sil_micro.specs.MicroWays.{Way, Returned, Ended, way}
 use Rattle.sil_micro.specs.MicroWords.{same_integer}
 
 -- ---- what a return hands over, and what the call does with it

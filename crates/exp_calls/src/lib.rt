@@ -1,6 +1,13 @@
 // The expansions of calls and returns into micro operations.
 #![tactic(auto)]
 
+mod answers;
+mod calls;
+mod expansion;
+mod frames;
+mod locations;
+mod operands;
 mod returns;
 
+pub use expansion::expand_call;
 pub use returns::{expand_return, is_return};

@@ -7,7 +7,7 @@ use sil_micro::{Code, op};
 use std::alloc::AllocError;
 
 /// The places go to the scratch words from `first` on.
-pub(crate) fn append_places(code: &mut Code, first: u32, places: &[i64]) -> Result<(), AllocError>
+pub fn append_places(code: &mut Code, first: u32, places: &[i64]) -> Result<(), AllocError>
     requires room { length code.old.ops + 500 < 2 ^ 32 }
     requires few { length places.now ≤ 100 }
     requires small { first ≤ 1000 }
@@ -25,7 +25,7 @@ pub(crate) fn append_places(code: &mut Code, first: u32, places: &[i64]) -> Resu
 }
 
 /// The addresses of so many cells go there, from the one in register 10 on.
-pub(crate) fn append_line(code: &mut Code, first: u32, count: u32) -> Result<(), AllocError>
+pub fn append_line(code: &mut Code, first: u32, count: u32) -> Result<(), AllocError>
     requires room { length code.old.ops + 500 < 2 ^ 32 }
     ensures grown { OnOk result (code.new ≡ appended code.old (line_code first count)) }
     ensures count { OnOk result (length code.new.ops ≡ length code.old.ops + 8) }

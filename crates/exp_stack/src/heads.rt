@@ -7,7 +7,7 @@ use sil_micro::{Code, op};
 use std::alloc::AllocError;
 
 /// The start where so many cells go onto the stack.
-pub(crate) fn append_up(code: &mut Code, k: u32, cells: u32) -> Result<(), AllocError>
+pub fn append_up(code: &mut Code, k: u32, cells: u32) -> Result<(), AllocError>
     requires room { length code.old.ops + 500 < 2 ^ 32 }
     ensures grown { OnOk result (code.new ≡ appended code.old (up_head k cells)) }
     ensures count { OnOk result (length code.new.ops ≡ length code.old.ops + 15) }
@@ -56,7 +56,7 @@ pub(crate) fn append_down(code: &mut Code, k: u32, cells: u32) -> Result<(), All
 }
 
 /// To the special symbol where the cells don't fit.
-pub(crate) fn append_guard(code: &mut Code, special: Option<u32>) -> Result<(), AllocError>
+pub fn append_guard(code: &mut Code, special: Option<u32>) -> Result<(), AllocError>
     requires room { length code.old.ops + 500 < 2 ^ 32 }
     ensures grown { OnOk result (code.new ≡ appended code.old (guard_code special)) }
     ensures count { OnOk result (length code.new.ops ≤ length code.old.ops + 3) }

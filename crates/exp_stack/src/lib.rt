@@ -8,4 +8,7 @@ mod moves;
 mod specifiers;
 mod stack;
 
+pub use addresses::{append_line, append_places};
 pub use expansion::{expand_stack, is_stack};
+pub use heads::{append_guard, append_up};
+pub use moves::{append_gather, append_scatter};

@@ -7,7 +7,7 @@ use sil_micro::{Code, op};
 use std::alloc::AllocError;
 
 /// So many cells, whose addresses are in the first scratch words, are read into those from `to` on.
-pub(crate) fn append_gather(code: &mut Code, to: u32, count: u32) -> Result<(), AllocError>
+pub fn append_gather(code: &mut Code, to: u32, count: u32) -> Result<(), AllocError>
     requires room { length code.old.ops + 500 < 2 ^ 32 }
     ensures grown { OnOk result (code.new ≡ appended code.old (gather_code to count)) }
     ensures count { OnOk result (length code.new.ops ≡ length code.old.ops + 17) }
@@ -35,7 +35,7 @@ pub(crate) fn append_gather(code: &mut Code, to: u32, count: u32) -> Result<(), 
 }
 
 /// What was read is written to the cells whose addresses are in the words from 100 on.
-pub(crate) fn append_scatter(code: &mut Code, count: u32) -> Result<(), AllocError>
+pub fn append_scatter(code: &mut Code, count: u32) -> Result<(), AllocError>
     requires room { length code.old.ops + 500 < 2 ^ 32 }
     ensures grown { OnOk result (code.new ≡ appended code.old (scatter_code count)) }
     ensures count { OnOk result (length code.new.ops ≡ length code.old.ops + 15) }
