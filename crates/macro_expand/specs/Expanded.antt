@@ -24,16 +24,17 @@ use Rattle.sil_micro.specs.MicroRuns.{RunsTo}
 use Rattle.exp_calls.specs.CallHalves.{DoesAnswer, DoesReturn, ExpandsCall, ExpandsReturn}
 use Rattle.exp_calls.specs.Group.{is_return}
 use Rattle.exp_choices.specs.Group.{is_choice}
+use Rattle.exp_control.specs.Group.{is_control}
 use Rattle.exp_descr.specs.Group.{is_descr}
 use Rattle.exp_flow.specs.Group.{is_flow}
 use Rattle.exp_stack.specs.Group.{is_stack}
 
--- the macros that are expanded so far: those whose statements make their steps by themselves, and returns
+-- the macros whose statements make their steps by themselves, and all that are expanded so far
 abbrev pub is_alone : Macro → Bool
-is_alone name = is_flow name || is_choice name || is_stack name || is_descr name
+is_alone name = is_flow name || is_choice name || is_stack name || is_control name || is_descr name
 
 abbrev pub is_expanded : Macro → Bool
-is_expanded name = is_return name || is_alone name
+is_expanded name = is_rcall name || is_return name || is_alone name
 
 abbrev pub AreExpanded : Program → Type 0
 AreExpanded program = All (λ statement. IsTrue (is_expanded statement.name)) program.statements

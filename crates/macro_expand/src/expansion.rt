@@ -17,6 +17,7 @@ ghost use Rattle.macro_expand.specs.Steps.{StepsWithinCosts};
 
 use exp_calls::{expand_return, is_return};
 use exp_choices::{expand_choice, is_choice};
+use exp_control::{expand_control, is_control};
 use exp_descr::expand_descr;
 use exp_flow::{expand_flow, is_flow};
 use exp_stack::{expand_stack, is_stack};
@@ -100,6 +101,8 @@ fn expand_alone(
         expand_choice(alloc, statement, at, specials, code)
     } else if is_stack(statement.name) {
         expand_stack(alloc, statement, at, specials, code)
+    } else if is_control(statement.name) {
+        expand_control(alloc, statement, at, specials, code)
     } else {
         expand_descr(alloc, statement, at, specials, code)
     }

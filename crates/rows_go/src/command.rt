@@ -18,7 +18,7 @@ const ALONE: &[u8] = b" MOVD X,X\nX DESCR\n END\n";
 const FAULTY: &[u8] = b"X! MOVD A,B\n MOVE A\n";
 
 /// Sources that are installed, the bound on steps, the status and the notes.
-static INSTALLED: [(&[u8], &str, u8, &[u8]); 18] = [
+static INSTALLED: [(&[u8], &str, u8, &[u8]); 27] = [
     (ENDS_BY_ZERO, "5", 0, b"exit 0\n"),
     (ENDS_BY_ZERO, "1", 0, b"exit 0\n"),
     (ENDS_BY_ZERO, "0", 8, b"budget\n"),
@@ -84,6 +84,54 @@ static INSTALLED: [(&[u8], &str, u8, &[u8]); 18] = [
         1,
         b"exit 1\n",
     ),
+    // traps
+    (b" ADREAL Z,Z,Z\nZ DESCR\n END\n", "5", 6, b"trap 0\n"),
+    (
+        b" PROC\n LINK Z,Z,Z,Z\nZ DESCR\n END\n",
+        "5",
+        6,
+        b"trap 1\n",
+    ),
+    // the entry of statement 4, that of none, and numbers that are no entries
+    (
+        b" BRANIC D,0\n ENDEX Z\n ENDEX Z\n ENDEX Z\n ENDEX ONE\nT DESCR 1879048256\nD DESCR T\nZ DESCR\nONE DESCR 1\n END\n",
+        "5",
+        1,
+        b"exit 1\n",
+    ),
+    (
+        b" BRANIC D,0\n ENDEX Z\n ENDEX Z\n ENDEX Z\n ENDEX ONE\nT DESCR 1879048272\nD DESCR T\nZ DESCR\nONE DESCR 1\n END\n",
+        "5",
+        7,
+        b"undefined 0\n",
+    ),
+    (
+        b" BRANIC D,0\n ENDEX Z\n ENDEX Z\n ENDEX Z\n ENDEX ONE\nT DESCR 0\nD DESCR T\nZ DESCR\nONE DESCR 1\n END\n",
+        "5",
+        7,
+        b"undefined 0\n",
+    ),
+    (
+        b" BRANIC D,0\n ENDEX Z\n ENDEX Z\n ENDEX Z\n ENDEX ONE\nT DESCR 1879048257\nD DESCR T\nZ DESCR\nONE DESCR 1\n END\n",
+        "5",
+        7,
+        b"undefined 0\n",
+    ),
+    // one step was taken before MSTIME
+    (
+        b" BRANCH A\n ENDEX ONE\nA MSTIME D\n ENDEX D\nONE DESCR 1\nD DESCR\n END\n",
+        "5",
+        1,
+        b"exit 1\n",
+    ),
+    (b" MSTIME D\n ENDEX D\nD DESCR 1\n END\n", "5", 0, b"exit 0\n"),
+    // no specifier is looked at
+    (
+        b" LOAD D,S,S,F\n ENDEX Z\nF ENDEX ONE\nD DESCR\nS BUFFER 2\nZ DESCR\nONE DESCR 1\n END\n",
+        "5",
+        1,
+        b"exit 1\n",
+    ),
 ];
 
 /// Sources that aren't installed, the status and the notes.
@@ -132,7 +180,7 @@ static REFUSED: [(&[u8], u8, &[u8]); 18] = [
         b"source 1 A1\nsource 3 A1\n",
     ),
     (b"X DESCR 0,65536\n MOVD X\n END\n", 3, b"source 2 S1\n"),
-    (b"L BRANCH L\n END\n", 16, b"not built\n"),
+    (b" DATE S\nS SPEC\n END\n", 16, b"not built\n"),
     (b"F FORMAT '(I3)'\n END\n", 16, b"not built\n"),
     (b" ENDEX X+1\nX DESCR\n END\n", 7, b"undefined 0\n"),
     (b" ENDEX X+DESCR\nX DESCR\n END\n", 0, b"exit 0\n"),
@@ -202,7 +250,7 @@ static FILES: [(&[(&str, &[u8])], u8, &[u8]); 11] = [
         b"exit 0\n",
     ),
     (
-        &[("SRC", b"L BRANCH L\n END\n"), ("TABLES", b"?")],
+        &[("SRC", b" DATE S\nS SPEC\n END\n"), ("TABLES", b"?")],
         3,
         b"tables 1 T1\n",
     ),
@@ -311,7 +359,7 @@ fn expect(rt: &impl Abort, answer: &Answer, code: u8, text: &[u8]) {
     assert!(rt; answer.text.as_slice() == text);
     assert_eq!(rt;
         answer.image.is_some(),
-        code == 0 || code == 1 || code == 7 || code == 8
+        matches!(code, 0 | 1 | 6 | 7 | 8)
     );
 }
 

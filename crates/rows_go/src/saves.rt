@@ -128,7 +128,7 @@ static NOT_SAVED: [(&[(&str, &[u8])], u8); 12] = [
         &[
             ("PARAMS", STANDARD_PARAMS),
             ("TABLES", b""),
-            ("SRC", b"L BRANCH L\n END\n"),
+            ("SRC", b" DATE S\nS SPEC\n END\n"),
         ],
         16,
     ),

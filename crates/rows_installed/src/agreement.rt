@@ -110,7 +110,9 @@ fn sizes_of(descr: u64, order: &[usize; 3], widths: &[u64; 3]) -> Option<Sizes> 
     if end > descr {
         return None;
     }
-    Some([descr, places[0], places[1], widths[1], places[2], widths[2]])
+    Some([
+        descr, places[0], places[1], widths[1], places[2], widths[2], 64,
+    ])
 }
 
 /// What each source ends with.

@@ -50,7 +50,7 @@ pub fn job_of(alloc: Global, source: &[u8], sizes: &Sizes) -> Result<Job, Fail>
 pub fn image_end(alloc: Global, job: &Job, n: u64) -> Result<CpuEnd, Fail>
     requires well_formed { IsWellFormed job.now.program job.now.params.settings }
     requires expanded { AreExpanded job.now.program }
-    requires few { n ≤ 9 }
+    requires few { n ≤ 99 }
 {
     let image = install(alloc, &job.program, &job.params)?;
     match run_image(alloc, &image, n, &mut Units::new()) {
@@ -63,6 +63,7 @@ pub fn image_end(alloc: Global, job: &Job, n: u64) -> Result<CpuEnd, Fail>
 pub fn agree(end: End, cpu: CpuEnd) -> bool {
     match (end, cpu) {
         (End::Exit(a), CpuEnd::Exit(b)) => a == b,
+        (End::Trap(a), CpuEnd::Trap(b)) => a == b,
         (End::Undefined(a), CpuEnd::Undefined(b)) => a == b,
         (End::Budget, CpuEnd::Budget) => true,
         _ => false,
@@ -77,7 +78,7 @@ pub fn ends_so(
     n: u64,
     wanted: Option<End>,
 ) -> Result<bool, Fail>
-    requires { n ≤ 9 }
+    requires { n ≤ 99 }
 {
     let job = job_of(alloc, source, sizes)?;
     let end = sim(alloc, &job.program, &job.params, n, &mut Units::new());

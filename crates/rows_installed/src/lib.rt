@@ -1,5 +1,5 @@
 // Installed programs beside the abstract machine: the rows of macros as sources, operands at the edges
-// of memory, and sources from seeds under layouts of every size.
+// of memory, jumps, traps and the stack, and sources from seeds under layouts of every size.
 #![tactic(auto)]
 
 #[cfg(test)]
@@ -8,6 +8,8 @@ mod agreement;
 mod edges;
 #[cfg(test)]
 mod ends;
+#[cfg(test)]
+mod flow;
 #[cfg(test)]
 mod rows;
 #[cfg(test)]

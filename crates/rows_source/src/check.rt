@@ -18,7 +18,7 @@ enum Outcome {
     Other,
 }
 
-static SOURCES: [(&[u8], Outcome); 25] = [
+static SOURCES: [(&[u8], Outcome); 26] = [
     (b" MOVD X,X\nX DESCR\n END\n", Outcome::Built),
     (b" END X,(\n", Outcome::Built),
     (b" MOVD X,Q\nX DESCR\n END\n", Outcome::Broken(1, b'N', 3)),
@@ -33,7 +33,8 @@ static SOURCES: [(&[u8], Outcome); 25] = [
     (b" MOVD X\nX DESCR\n END\n", Outcome::Broken(1, b'S', 1)),
     (b" MOVD X,X,X\nX DESCR\n END\n", Outcome::Broken(1, b'S', 1)),
     (b" MOVD X,(X)\nX DESCR\n END\n", Outcome::Broken(1, b'S', 1)),
-    (b" BRANCH X\nX ENDEX Z\nZ DESCR\n END\n", Outcome::NotBuilt),
+    (b" BRANCH X\nX ENDEX Z\nZ DESCR\n END\n", Outcome::Built),
+    (b" DATE S\nS SPEC\n END\n", Outcome::NotBuilt),
     (b"F FORMAT '(I3)'\n END\n", Outcome::NotBuilt),
     (b"S STRING\n END\n", Outcome::Broken(1, b'S', 1)),
     (b"X DESCR 1,2,3,4\n END\n", Outcome::Broken(1, b'S', 1)),
