@@ -9,5 +9,5 @@ mod locations;
 mod operands;
 mod returns;
 
-pub use expansion::expand_call;
+pub use expansion::{expand_call, is_call};
 pub use returns::{expand_return, is_return};

@@ -1,10 +1,9 @@
 -- Where statements are entered, and ways through their pieces as operations of the code.
-use Rattle.std.proofs.Common.{◌≡◌, ℕ, zero, suc, ◌+◌, ◌<◌, ◌≤◌, ◌==◌, inl, inr, List, [], ◌∷◌, ◌++◌, length, Option, Some, None, true, refl, sym, ap, ◌∙◌, subst, arith, add-zero, append_assoc}
+use Rattle.std.proofs.Common.{◌≡◌, ℕ, suc, ◌+◌, ◌<◌, ◌≤◌, ◌==◌, inl, inr, List, [], ◌∷◌, ◌++◌, length, Some, true, refl, sym, ap, ◌∙◌, subst, arith, add-zero, append_assoc}
 use Rattle.std.proofs.lemmas.Bool.Decides.{nat_tests}
 use Rattle.std.proofs.lemmas.Option.{slice_get_cases, slice_get_within}
 use Rattle.std.specs.Prelude.{slice_get, nat_lt, if◌then◌else◌}
 use Rattle.layout_params.specs.Parameters.{Parameters}
-use Rattle.sil_model.specs.declared.end.End.{End}
 use Rattle.sil_model.specs.declared.program.Program.{Program}
 use Rattle.sil_model.specs.declared.program.Statement.{Statement}
 use Rattle.sil_model.specs.Fits.{FitsRow, bounds_of}
@@ -12,7 +11,6 @@ use Rattle.sil_model.specs.States.{State, Step, Goes, Ends}
 use Rattle.sil_model.specs.Valid.{IsValid}
 use Rattle.sil_model.specs.WellFormed.{IsWellFormed}
 use Rattle.sil_model.proofs.Keeps.{all_at}
-use Rattle.sil_micro.specs.declared.op.Op.{Op}
 use Rattle.sil_micro.specs.declared.op.Op.TheVariants.{Begin}
 use Rattle.sil_micro.specs.Codes.{MicroCode, entry_of, place_of, setting_of}
 use Rattle.sil_micro.specs.Expands.{CanBegin, Meets, at}

@@ -1,5 +1,5 @@
 -- A return goes on in the return part of its call.
-use Rattle.std.proofs.Common.{◌≡◌, ℕ, ◌+◌, ◌<◌, ◌≤◌, inl, inr, List, [], ◌++◌, length, Option, Some, None, true, false, refl, sym, ap, ◌∙◌, subst, arith, append-nil}
+use Rattle.std.proofs.Common.{◌≡◌, ℕ, ◌+◌, ◌<◌, ◌≤◌, inl, inr, List, ◌++◌, length, Some, None, true, false, refl, sym, ap, ◌∙◌, subst, arith, append-nil}
 use Rattle.std.proofs.lemmas.Bool.Decides.{nat_tests}
 use Rattle.std.proofs.lemmas.Option.{slice_get_cases}
 use Rattle.std.specs.Prelude.{ℤ, pos, negsuc, slice_get, if◌then◌else◌}
@@ -105,11 +105,11 @@ module _ (program : Program) (parameters : Parameters) (c : MicroCode) (x : IsEx
             let d = a.does.does g v (subst (λ m. IsMemory m) (sym same_memory) valid.memory) in
             let args = callee.args in
             let same : answer args j v.registers.r1 v.registers.r2 v.registers.r3 v.state ≡ step =
-                ap (λ i. answer args j v.registers.r1 v.registers.r2 i v.state) h.number.2
-                ∙ ap (λ t. answer args j v.registers.r1 v.registers.r2 (numbered h.number.0) t) h.state
-                ∙ sym (the_call site s _ h.number.0 h.saved entry h.place h.number.1 h.read h.entered j callee v.registers.r1 v.registers.r2 is (is_called site j callee there call) refl h.top) in
+            ap (λ i. answer args j v.registers.r1 v.registers.r2 i v.state) h.number.2
+            ∙ ap (λ t. answer args j v.registers.r1 v.registers.r2 (numbered h.number.0) t) h.state
+            ∙ sym (the_call site s _ h.number.0 h.saved entry h.place h.number.1 h.read h.entered j callee v.registers.r1 v.registers.r2 is (is_called site j callee there call) refl h.top) in
             let back = entering.arrives program parameters c x good on_ways meeting n j callee there d.fuel a.part v (way g (j + 1) p.piece d.fuel a.part v) step (v.spent + 1200) a.does.within refl
-                (subst (λ t. Meets (way g (j + 1) p.piece d.fuel a.part v) t (v.spent + 1200)) same d.meets) within in
+            (subst (λ t. Meets (way g (j + 1) p.piece d.fuel a.part v) t (v.spent + 1200)) same d.meets) within in
             let none = entering.met_later program parameters c x good on_ways meeting n j callee there d.fuel a.part v a.does.behind in
             let goes = leads_then g c count back.count place (p.base + a.part) u v back.outcome first _ (subst (λ o. Leads g c count place u (at_return o v) first) (at_callee ∙ a.place) leads) back.leads in
             record {

@@ -1,5 +1,5 @@
 -- The code of a program runs as the program does.
-use Rattle.std.proofs.Common.{◌≡◌, ℕ, zero, suc, ◌+◌, ◌<◌, ◌≤◌, List, [], ◌∷◌, ◌++◌, length, Option, Some, None, true, false, refl, sym, ap, ◌∙◌, subst, arith}
+use Rattle.std.proofs.Common.{◌≡◌, ℕ, zero, suc, ◌+◌, ◌≤◌, List, [], ◌∷◌, ◌++◌, length, Option, Some, None, false, refl, sym, ap, ◌∙◌, subst, arith}
 use Rattle.std.proofs.lemmas.Bool.Decides.{nat_tests}
 use Rattle.std.specs.Prelude.{slice_get, nat_lt, if◌then◌else◌}
 use Rattle.sil_base.specs.declared.limits.TheConstants.{MAX_STEPS}
@@ -26,7 +26,7 @@ use Rattle.sil_micro.specs.MicroRuns as runs
 use Rattle.sil_micro.specs.MicroStates.{Setting, Micro, first_micro}
 use Rattle.sil_micro.proofs.Ways.{slice_get_none}
 use Rattle.macro_expand.specs.Expanded.{IsExpansion}
-use Rattle.macro_expand.specs.Steps.{Makes, MakesStep}
+use Rattle.macro_expand.specs.Steps.{Makes}
 use Rattle.macro_expand.proofs.Costs.{makes_step}
 use Rattle.macro_expand.proofs.Entering.{place_here}
 use Rattle.macro_expand.proofs.Entering as entering

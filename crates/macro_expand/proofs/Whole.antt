@@ -1,5 +1,5 @@
 -- A code with a piece for each statement is whole.
-use Rattle.std.proofs.Common.{◌≡◌, ◌+◌, ◌≤◌, length, ap, ◌∙◌, arith}
+use Rattle.std.proofs.Common.{◌+◌, ◌≤◌, length, ap, ◌∙◌, arith}
 use Rattle.std.proofs.lemmas.Option.{slice_get_within}
 use Rattle.sil_base.specs.declared.limits.TheConstants.{MAX_STATEMENTS}
 use Rattle.sil_model.specs.declared.program.Program.{Program}
