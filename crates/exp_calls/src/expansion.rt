@@ -1,5 +1,5 @@
 // The expansion of a statement whose macro is a call.
-ghost use Rattle.std.specs.Prelude.{◌*◌, ◌<◌, ◌≤◌, All, OnOk, IsTrue, length};
+ghost use Rattle.std.specs.Prelude.{◌≡◌, ◌*◌, ◌<◌, ◌≤◌, All, OnOk, IsTrue, length};
 ghost use Rattle.sil_macros.specs.MacroRows.{row};
 ghost use Rattle.sil_model.specs.CallClauses.{is_rcall};
 ghost use Rattle.sil_model.specs.Fits.{fit};
@@ -12,9 +12,17 @@ ghost use Rattle.exp_calls.specs.CallOperands.{HasFewLocations};
 use crate::calls::rcall;
 use crate::operands::{arguments, descriptor, locations, procedure};
 use sil_base::MAX_STATEMENTS;
+use sil_macros::Macro;
 use sil_micro::{Code, MAX_PIECE_WEIGHT, has_room};
 use sil_model::{Specials, Statement};
 use std::alloc::{AllocError, Global};
+
+/// Whether a macro calls a procedure.
+pub fn is_call(name: Macro) -> bool
+    ensures { result ≡ is_rcall name }
+{
+    matches!(name, Macro::Rcall)
+}
 
 /// Expands statement number `at`, an RCALL. After an error the code may have a part of the
 /// statement's operations.

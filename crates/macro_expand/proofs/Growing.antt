@@ -5,18 +5,19 @@ use Rattle.std.proofs.lemmas.Option.{slice_get_read}
 use Rattle.std.specs.Prelude.{get_or, slice_get, if◌then◌else◌}
 use Rattle.sil_model.specs.declared.program.Program.{Program}
 use Rattle.sil_model.specs.declared.program.Statement.{Statement}
-use Rattle.sil_model.specs.Costs.{visits}
+use Rattle.sil_model.specs.CallClauses.{is_rcall}
 use Rattle.sil_model.specs.Prints.{writes_records, IsSilent}
-use Rattle.sil_model.specs.Table.{clause}
 use Rattle.sil_micro.specs.declared.op.Op.{Op}
 use Rattle.sil_micro.specs.declared.op.Op.TheVariants.{Begin, Jump, JumpIf}
 use Rattle.sil_micro.specs.declared.op.Target.{Target}
 use Rattle.sil_micro.specs.declared.op.Target.TheVariants.{Op as Place, Statement as ToStatement}
 use Rattle.sil_micro.specs.Codes.{MicroCode, entry_of, return_of, targets_within, op_leads}
-use Rattle.sil_micro.specs.Expands.{Does, IsPiece}
+use Rattle.sil_micro.specs.Expands.{IsPiece}
 use Rattle.sil_micro.specs.Forms.{is_op, all_ops}
 use Rattle.sil_micro.specs.Pieces.{placed, placed_op, placed_target, target_within, op_within, fits_part, is_no_begin, is_quiet, begins_once, names_within, weights}
 use Rattle.sil_micro.proofs.Moved.{and_first, and_second, op_at}
+use Rattle.exp_calls.specs.Group.{is_return}
+use Rattle.macro_expand.specs.Expanded.{DoesStep, HasReturns}
 
 -- ---- lists
 
@@ -72,7 +73,8 @@ pub record Stands (c : MicroCode) (program : Program) (i k : ℕ) (statement : S
   pub each : (j : ℕ) (op : Op) → slice_get piece j ≡ Some op → slice_get c.ops (base + j) ≡ Some (placed_op base op)
   pub follows : place_so_far c i (k + 1) ≡ Some (base + length piece)
   pub is_piece : IsPiece k (length c.entries) (length c.formats) (writes_records statement.name) piece
-  pub does : Does k piece program.specials statement.args (clause statement.name) (visits statement.name)
+  pub does : DoesStep (is_return statement.name) k piece program.specials statement.name statement.args
+  pub returns : HasReturns (is_rcall statement.name) c k base piece statement.args
 
 pub record SoFar (program : Program) (i : ℕ) (c : MicroCode) : Type 0 where
   pub statements : length c.entries ≡ length program.statements
@@ -83,7 +85,9 @@ pub record SoFar (program : Program) (i : ℕ) (c : MicroCode) : Type 0 where
   pub begun : (k place : ℕ) → entry_of c k ≡ Some place → slice_get c.ops place ≡ Some (Begin k)
   pub rise : (j k place next : ℕ) → j < k → entry_of c j ≡ Some place → entry_of c k ≡ Some next → place < next
   pub begins : (place k : ℕ) → slice_get c.ops place ≡ Some (Begin k) → entry_of c k ≡ Some place
-  pub returns : (k : ℕ) → return_of c k ≡ None
+  pub count : length c.returns ≡ length c.entries
+  pub unreturned : (k : ℕ) → i ≤ k → return_of c k ≡ None
+  pub returns : (k place : ℕ) → return_of c k ≡ Some place → place ≤ length c.ops
   pub jumps : all_ops (op_leads (length c.ops)) c.ops ≡ true
   pub names : all_ops (names_within (length c.entries) (length c.formats)) c.ops ≡ true
   pub quiet : IsSilent program → all_ops is_quiet c.ops ≡ true

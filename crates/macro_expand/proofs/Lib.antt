@@ -1,5 +1,9 @@
 mod Growing
 mod Stepping
-mod Running
+mod Whole
+mod Halves
+mod Entering
+mod Returning
 mod Costs
+mod Running
 pub mod Locating

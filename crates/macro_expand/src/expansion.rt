@@ -1,6 +1,7 @@
 // The expansion of all statements of a program.
 ghost use Rattle.std.specs.Prelude.{◌≡◌, ◌*◌, ◌<◌, ◌≤◌, All, IfOk, OnOk, IsTrue, length, map};
 ghost use Rattle.sil_macros.specs.MacroRows.{row};
+ghost use Rattle.sil_model.specs.CallClauses.{is_rcall};
 ghost use Rattle.sil_model.specs.Costs.{visits};
 ghost use Rattle.sil_model.specs.Fits.{fit};
 ghost use Rattle.sil_model.specs.Prints.{writes_records};
@@ -8,11 +9,14 @@ ghost use Rattle.sil_model.specs.Table.{clause};
 ghost use Rattle.sil_model.specs.WellFormed.{IsWellFormed};
 ghost use Rattle.sil_micro.specs.Expands.{Expands};
 ghost use Rattle.sil_micro.specs.Pieces.{weights};
+ghost use Rattle.exp_calls.specs.CallOperands.{HasFewLocations};
+ghost use Rattle.exp_calls.specs.Group.{is_return};
 ghost use Rattle.exp_choices.specs.Locations.{LocatesWithin};
 ghost use Rattle.exp_stack.specs.Allowed.{AreAmong, HasFewItems};
-ghost use Rattle.macro_expand.specs.Expanded.{AreExpanded, IsExpansion, RunsAsTheMachine, is_expanded};
+ghost use Rattle.macro_expand.specs.Expanded.{AreExpanded, IsExpandedTo, IsExpansion, RunsAsTheMachine, is_alone, is_expanded};
 ghost use Rattle.macro_expand.specs.Steps.{StepsWithinCosts};
 
+use exp_calls::{expand_call, expand_return, is_call, is_return};
 use exp_choices::{expand_choice, is_choice};
 use exp_control::{expand_control, is_control};
 use exp_descr::expand_descr;
@@ -50,7 +54,6 @@ pub fn expand_all(alloc: Global, program: &Program, params: &Params) -> Result<C
 }
 
 /// Expands statement number `at`.
-#[tactic(auto)]
 fn expand(
     alloc: Global,
     statement: &Statement,
@@ -59,6 +62,34 @@ fn expand(
     code: &mut Code,
 ) -> Result<(), AllocError>
     requires group { IsTrue (is_expanded statement.now.name) }
+    requires fits { IsTrue (fit (row statement.now.name).places statement.now.args) }
+    requires locations { All (LocatesWithin (length code.old.entries)) statement.now.args }
+    requires items { All HasFewItems statement.now.args }
+    requires few_locations { All HasFewLocations statement.now.args }
+    requires among { AreAmong (length code.old.entries) specials.now }
+    requires number { at < length code.old.entries }
+    requires few { length code.old.entries ≤ MAX_STATEMENTS }
+    requires light { weights code.old.ops ≤ MAX_PIECE_WEIGHT * at }
+    ensures { OnOk result (IsExpandedTo (is_rcall statement.now.name) (is_return statement.now.name) code.old code.new at specials.now statement.now.name statement.now.args) }
+{
+    if is_call(statement.name) {
+        expand_call(alloc, statement, at, specials, code)
+    } else if is_return(statement.name) {
+        expand_return(alloc, statement, at, specials, code)
+    } else {
+        expand_alone(alloc, statement, at, specials, code)
+    }
+}
+
+/// Expands a statement that neither calls nor returns.
+fn expand_alone(
+    alloc: Global,
+    statement: &Statement,
+    at: u32,
+    specials: &Specials,
+    code: &mut Code,
+) -> Result<(), AllocError>
+    requires group { IsTrue (is_alone statement.now.name) }
     requires fits { IsTrue (fit (row statement.now.name).places statement.now.args) }
     requires locations { All (LocatesWithin (length code.old.entries)) statement.now.args }
     requires items { All HasFewItems statement.now.args }

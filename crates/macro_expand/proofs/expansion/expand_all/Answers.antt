@@ -1,9 +1,10 @@
 use Rattle.std.proofs.Common.{◌≡◌, length, ap, arith, subst}
 use Rattle.macro_expand.proofs.Costs.{makes_step}
 use Rattle.macro_expand.proofs.Growing.{statement_at, SoFar}
-use Rattle.macro_expand.proofs.Locating.{few_items, located, specials_among}
+use Rattle.macro_expand.proofs.Locating.{few_items, few_locations, located, specials_among}
 use Rattle.macro_expand.proofs.Running.{runs_to}
-use Rattle.macro_expand.proofs.Stepping.{step, whole}
+use Rattle.macro_expand.proofs.Stepping.{step}
+use Rattle.macro_expand.proofs.Whole.{whole}
 use Rattle.macro_expand.proofs.expansion.expand_all.Goals as goal
 
 pub expand-requires-clause-locations : goal.expand-requires-clause-locations
@@ -16,11 +17,18 @@ expand-requires-clause-items c =
     few_items c.args.program.now c.args.params.now.settings c.loop-k.k c.index-statements-k.result c.requires.well_formed.rows
     (statement_at c.args.program.now c.items-statements.result.now c.loop-k.k c.index-statements-k.result c.items-statements.ensures c.loop-k-test.true c.index-statements-k.is)
 
+pub expand-requires-clause-few_locations : goal.expand-requires-clause-few_locations
+expand-requires-clause-few_locations c =
+    few_locations c.args.program.now c.args.params.now.settings c.loop-k.k c.index-statements-k.result c.requires.well_formed.rows
+    (statement_at c.args.program.now c.items-statements.result.now c.loop-k.k c.index-statements-k.result c.items-statements.ensures c.loop-k-test.true c.index-statements-k.is)
+
 pub expand-requires-clause-among : goal.expand-requires-clause-among
 expand-requires-clause-among c = specials_among c.args.program.now c.args.params.now.settings (length c.loop-k.code.entries) c.requires.well_formed.specials c.loop-k.invariant.statements
 
 pub loop-k-preserved : goal.loop-k-preserved
-loop-k-preserved c = step c.args.program.now c.loop-k.k c.loop-k.code c.expand.new.code c.index-statements-k.result c.loop-k.invariant (omega (arith, c.loop-k-test.true, ap length c.items-statements.ensures)) (statement_at c.args.program.now c.items-statements.result.now c.loop-k.k c.index-statements-k.result c.items-statements.ensures c.loop-k-test.true c.index-statements-k.is) c.in_ok-expand.ensures
+loop-k-preserved c =
+    let there = statement_at c.args.program.now c.items-statements.result.now c.loop-k.k c.index-statements-k.result c.items-statements.ensures c.loop-k-test.true c.index-statements-k.is in
+    step c.args.program.now c.loop-k.k c.loop-k.code c.expand.new.code c.index-statements-k.result c.loop-k.invariant (omega (arith, c.loop-k-test.true, ap length c.items-statements.ensures)) there c.in_ok-expand.ensures
 
 pub returns-clause-expansion : goal.returns-clause-expansion
 returns-clause-expansion c =
