@@ -1,4 +1,4 @@
-// The expansions of calls into micro operations.
+// The expansions of calls and returns into micro operations.
 #![tactic(auto)]
 
 mod answers;
@@ -7,5 +7,7 @@ mod expansion;
 mod frames;
 mod locations;
 mod operands;
+mod returns;
 
 pub use expansion::expand_call;
+pub use returns::{expand_return, is_return};
