@@ -7,15 +7,39 @@ use std::test::Fail;
 /// Words with a blank between any two, and the command that they give, where they are accepted.
 static ROWS: [(&str, &str); 46] = [
     ("", "None"),
-    ("check S T P", "Some(Check { names: SourceFiles { source: \"S\", tables: \"T\", params: \"P\" } })"),
-    ("install S T P I", "Some(Install { names: SourceFiles { source: \"S\", tables: \"T\", params: \"P\" }, image: \"I\" })"),
-    ("run A 5", "Some(Run { image: \"A\", steps: Steps { most: 5 } })"),
-    ("trace A 0", "Some(Trace { image: \"A\", steps: Steps { most: 0 } })"),
-    ("sim S T P 0000000000012", "Some(Sim { names: SourceFiles { source: \"S\", tables: \"T\", params: \"P\" }, steps: Steps { most: 12 } })"),
+    (
+        "check S T P",
+        "Some(Check { names: SourceFiles { source: \"S\", tables: \"T\", params: \"P\" } })",
+    ),
+    (
+        "install S T P I",
+        "Some(Install { names: SourceFiles { source: \"S\", tables: \"T\", params: \"P\" }, image: \"I\" })",
+    ),
+    (
+        "run A 5",
+        "Some(Run { image: \"A\", steps: Steps { most: 5 } })",
+    ),
+    (
+        "trace A 0",
+        "Some(Trace { image: \"A\", steps: Steps { most: 0 } })",
+    ),
+    (
+        "sim S T P 0000000000012",
+        "Some(Sim { names: SourceFiles { source: \"S\", tables: \"T\", params: \"P\" }, steps: Steps { most: 12 } })",
+    ),
     ("list A", "Some(List { image: \"A\" })"),
-    ("go S T P I 7", "Some(Go { names: SourceFiles { source: \"S\", tables: \"T\", params: \"P\" }, image: \"I\", steps: Steps { most: 7 } })"),
-    ("demo 6 0", "Some(Demo { numbers: DemoNumbers { cards: 6, seed: 0 } })"),
-    ("run A 1099511627776", "Some(Run { image: \"A\", steps: Steps { most: 1099511627776 } })"),
+    (
+        "go S T P I 7",
+        "Some(Go { names: SourceFiles { source: \"S\", tables: \"T\", params: \"P\" }, image: \"I\", steps: Steps { most: 7 } })",
+    ),
+    (
+        "demo 6 0",
+        "Some(Demo { numbers: DemoNumbers { cards: 6, seed: 0 } })",
+    ),
+    (
+        "run A 1099511627776",
+        "Some(Run { image: \"A\", steps: Steps { most: 1099511627776 } })",
+    ),
     ("run A 1099511627777", "None"),
     ("run A 9999999999999", "None"),
     ("run A 00000000000005", "None"),
@@ -24,13 +48,22 @@ static ROWS: [(&str, &str); 46] = [
     ("trace A 1099511627777", "None"),
     ("sim S T P 1099511627777", "None"),
     ("go S T P I 1099511627777", "None"),
-    ("demo 16000 1", "Some(Demo { numbers: DemoNumbers { cards: 16000, seed: 1 } })"),
+    (
+        "demo 16000 1",
+        "Some(Demo { numbers: DemoNumbers { cards: 16000, seed: 1 } })",
+    ),
     ("demo 16001 1", "None"),
     ("demo 0 1", "None"),
-    ("demo 0000000000006 0000000001", "Some(Demo { numbers: DemoNumbers { cards: 6, seed: 1 } })"),
+    (
+        "demo 0000000000006 0000000001",
+        "Some(Demo { numbers: DemoNumbers { cards: 6, seed: 1 } })",
+    ),
     ("demo 00000000000006 1", "None"),
     ("demo 6 00000000001", "None"),
-    ("demo 1 2147483647", "Some(Demo { numbers: DemoNumbers { cards: 1, seed: 2147483647 } })"),
+    (
+        "demo 1 2147483647",
+        "Some(Demo { numbers: DemoNumbers { cards: 1, seed: 2147483647 } })",
+    ),
     ("demo 1 2147483648", "None"),
     ("demo 1 9999999999", "None"),
     ("list -x", "None"),
