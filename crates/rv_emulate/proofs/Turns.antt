@@ -1,32 +1,35 @@
 -- Turns and rounds of a run.
-use Rattle.std.proofs.Common.{◌≡◌, ℕ, zero, suc, ◌+◌, ◌-◌, ◌<◌, ◌≤◌, Some, None, Ok, Err, refl, sym, ap, subst, ◌∙◌, arith}
+use Rattle.std.proofs.Common.{◌≡◌, ℕ, zero, suc, ◌+◌, ◌-◌, ◌<◌, ◌≤◌, Some, None, refl, sym, ap, subst, ◌∙◌, arith}
 use Rattle.rv_emulate.specs.declared.code.Code.{Code}
-use Rattle.rv_emulate.specs.declared.storage.Storage.{Storage}
 use Rattle.rv_emulate.specs.declared.end.CpuEnd.{CpuEnd}
+use Rattle.rv_emulate.specs.declared.end.CpuStep.{CpuStep}
+use Rattle.rv_emulate.specs.declared.end.CpuStep.TheVariants as steps
 use Rattle.rv_emulate.specs.EmulatorStates.{State, Outcome, On, Ended}
 use Rattle.rv_emulate.specs.EmulatorRuns.{on_state}
-use Rattle.rv_emulate.specs.CpuView.{code_step, code_run, state_at, Runs, Turns}
+use Rattle.rv_emulate.specs.CpuView.{code_step, code_run, Steps, Runs}
 
-next_is : (code : Code) (k pc to : ℕ) (o r : Outcome) (s u : Storage) → Turns o (Ok to) pc s u → on_state o (code_run code k) ≡ r → code_run code k (state_at to u) ≡ r
-next_is code k pc to (On t) r s u h e = ap (λ x. code_run code k x) (sym h) ∙ e
-next_is code k pc to (Ended d tapes) r s u h e = absurd h
+next_is : (code : Code) (k : ℕ) (o r : Outcome) (s u : State) → Steps o steps.Next s u → on_state o (code_run code k) ≡ r → code_run code k u ≡ r
+next_is code k (On t) r s u h e = ap (λ x. code_run code k x) (sym h) ∙ e
+next_is code k (Ended d tapes) r s u h e = absurd h
 
-pub one_turn : (code : Code) (n turn pc to : ℕ) (s u : Storage) (r : Outcome) → turn < n → Turns (code_step code (state_at pc s)) (Ok to) pc s u → code_run code (n - turn) (state_at pc s) ≡ r → code_run code (n - (turn + 1)) (state_at to u) ≡ r
+pub one_turn : (code : Code) (n turn : ℕ) (step : CpuStep) (s u : State) (r : Outcome) → turn < n → step ≡ steps.Next → Steps (code_step code s) step s u → code_run code (n - turn) s ≡ r → code_run code (n - (turn + 1)) u ≡ r
 unfolding code_run
-one_turn code n turn pc to s u r lt h e =
+one_turn code n turn step s u r lt is h e =
     let k : n - turn ≡ suc (n - (turn + 1)) = omega arith in
-    next_is code (n - (turn + 1)) pc to (code_step code (state_at pc s)) r s u h (subst (λ j. code_run code j (state_at pc s) ≡ r) k e)
+    let P : CpuStep → Type 0 = λ x. Steps (code_step code s) x s u in
+    next_is code (n - (turn + 1)) (code_step code s) r s u (subst P is h) (subst (λ j. code_run code j s ≡ r) k e)
 
-ended_is : (k pc : ℕ) (code : Code) (d : CpuEnd) (o r : Outcome) (s u : Storage) → Turns o (Err d) pc s u → on_state o (code_run code k) ≡ r → Runs r (Some d) (state_at pc u)
-ended_is k pc code d (On t) r s u h e = absurd h
-ended_is k pc code d (Ended c tapes) r s u h e = let P : Outcome → Type 0 = λ o. Runs o (Some d) (state_at pc u) in subst P e (h.0, h.1)
+ended_is : (k : ℕ) (code : Code) (d : CpuEnd) (o r : Outcome) (s u : State) → Steps o (steps.Ended d) s u → on_state o (code_run code k) ≡ r → Runs r (Some d) u
+ended_is k code d (On t) r s u h e = absurd h
+ended_is k code d (Ended c tapes) r s u h e = let P : Outcome → Type 0 = λ o. Runs o (Some d) u in subst P e (h.0, h.1)
 
 -- a turn that ends
-pub last_turn : (code : Code) (n turn pc : ℕ) (d : CpuEnd) (s u : Storage) (r : Outcome) → turn < n → Turns (code_step code (state_at pc s)) (Err d) pc s u → code_run code (n - turn) (state_at pc s) ≡ r → Runs r (Some d) (state_at pc u)
+pub last_turn : (code : Code) (n turn : ℕ) (step : CpuStep) (d : CpuEnd) (s u : State) (r : Outcome) → turn < n → step ≡ steps.Ended d → Steps (code_step code s) step s u → code_run code (n - turn) s ≡ r → Runs r (Some d) u
 unfolding code_run
-last_turn code n turn pc d s u r lt h e =
+last_turn code n turn step d s u r lt is h e =
     let k : n - turn ≡ suc (n - (turn + 1)) = omega arith in
-    ended_is (n - (turn + 1)) pc code d (code_step code (state_at pc s)) r s u h (subst (λ j. code_run code j (state_at pc s) ≡ r) k e)
+    let P : CpuStep → Type 0 = λ x. Steps (code_step code s) x s u in
+    ended_is (n - (turn + 1)) code d (code_step code s) r s u (subst P is h) (subst (λ j. code_run code j s ≡ r) k e)
 
 -- no turn is left
 pub no_turn : (code : Code) (n turn : ℕ) (s : State) (r : Outcome) → n ≤ turn → code_run code (n - turn) s ≡ r → Runs r None s

@@ -1,5 +1,5 @@
 -- What the code's values stand for.
-use Rattle.std.specs.Prelude.{◌≡◌, ℕ, zero, suc, ◌-◌, ◌/◌, ◌%◌, Bool, true, false, ◌&&◌, ◌==◌, nat_le, List, [], map, Option, Some, None, Result, Ok, Err, if◌then◌else◌, slice_get}
+use Rattle.std.specs.Prelude.{◌≡◌, ℕ, zero, suc, ◌-◌, ◌/◌, ◌%◌, Bool, true, false, ◌&&◌, ◌==◌, nat_le, List, [], map, Option, Some, None, if◌then◌else◌, slice_get}
 use Rattle.layout_params.specs.Parameters.{standard}
 use Rattle.sil_macros.specs.declared.names.Macro.TheVariants.{Endex}
 use Rattle.rv_isa.specs.declared.instr.Instr.{Instr}
@@ -90,12 +90,6 @@ abbrev pub Steps : Outcome → CpuStep → State → State → Type 0
 Steps (On t) steps.Next old new = t ≡ new
 Steps (Ended e tapes) (steps.Ended d) old new = (e ≡ Some d) × (tapes ≡ new.tapes) × (new ≡ old)
 Steps _ _ old new = ⊥
-
--- the step at a place is made and the next place answered, or the run ends and nothing changes
-abbrev pub Turns : Outcome → Result ℕ CpuEnd → ℕ → Storage → Storage → Type 0
-Turns (On t) (Ok to) pc old new = t ≡ state_at to new
-Turns (Ended e tapes) (Err d) pc old new = (e ≡ Some d) × (tapes ≡ []) × (state_at pc new ≡ state_at pc old)
-Turns _ _ pc old new = ⊥
 
 -- the run has ended so, or has come to this state
 abbrev pub Runs : Outcome → Option CpuEnd → State → Type 0

@@ -4,12 +4,12 @@ ghost use Rattle.std.specs.Prelude.{◌≡◌, ◌+◌, ◌*◌, ◌<◌, ◌^�
 ghost use Rattle.rv_emulate.specs.EmulatorSteps.{ecall, jump, loads, loads_signed, extended, next_with, r_value, store_step, sum64, taken, with_instr};
 ghost use Rattle.rv_emulate.specs.EmulatorMemory.{stored};
 ghost use Rattle.rv_emulate.specs.FlatInstrs.{upper_bits};
-ghost use Rattle.rv_emulate.specs.CpuView.{image_of, instr_of, state_at, Turns};
+ghost use Rattle.rv_emulate.specs.CpuView.{image_of, instr_of, state_at, Steps};
 
 use crate::access::{load, store};
 use crate::calls::ABSENT;
 use crate::code::Code;
-use crate::end::CpuEnd;
+use crate::end::{CpuEnd, CpuStep};
 use crate::flat::Flat;
 use crate::storage::Storage;
 use crate::values::{extend, extend_bytes, is_taken, value_of_r, wide};
@@ -19,9 +19,9 @@ use rv_isa::{BOp, ROp};
 impl Storage {
     /// Does what the instruction at `pc` does, and answers the place of the next one; or says how the
     /// run ends, and changes nothing.
-    pub(crate) fn act(&mut self, code: &Code, f: Flat, pc: u64) -> Result<u64, CpuEnd>
+    pub(crate) fn act(&mut self, code: &Code, f: Flat, pc: u64) -> (u64, CpuStep)
         requires { pc < 2 ^ 62 }
-        ensures { Turns (with_instr (image_of code.now) (instr_of f) (state_at pc self.old)) result pc self.old self.new }
+        ensures { Steps (with_instr (image_of code.now) (instr_of f) (state_at pc self.old)) result.1 (state_at pc self.old) (state_at result.0 self.new) }
     {
         let x = self.read(f.rs1);
         let y = self.read(f.rs2);
@@ -76,75 +76,68 @@ impl Storage {
             What::Slliw => self.compute(ROp::Sllw, f.rd, x, z, pc),
             What::Srliw => self.compute(ROp::Srlw, f.rd, x, z, pc),
             What::Sraiw => self.compute(ROp::Sraw, f.rd, x, z, pc),
-            What::Fence => Ok(pc + 4),
+            What::Fence => (pc + 4, CpuStep::Next),
             What::Sb => self.store(1, x.wrapping_add(z), y, pc),
             What::Sh => self.store(2, x.wrapping_add(z), y, pc),
             What::Sw => self.store(4, x.wrapping_add(z), y, pc),
             What::Sd => self.store(8, x.wrapping_add(z), y, pc),
-            What::Beq => Ok(branched(BOp::Beq, x, y, z, pc)),
-            What::Bne => Ok(branched(BOp::Bne, x, y, z, pc)),
-            What::Blt => Ok(branched(BOp::Blt, x, y, z, pc)),
-            What::Bge => Ok(branched(BOp::Bge, x, y, z, pc)),
-            What::Bltu => Ok(branched(BOp::Bltu, x, y, z, pc)),
-            What::Bgeu => Ok(branched(BOp::Bgeu, x, y, z, pc)),
+            What::Beq => (branched(BOp::Beq, x, y, z, pc), CpuStep::Next),
+            What::Bne => (branched(BOp::Bne, x, y, z, pc), CpuStep::Next),
+            What::Blt => (branched(BOp::Blt, x, y, z, pc), CpuStep::Next),
+            What::Bge => (branched(BOp::Bge, x, y, z, pc), CpuStep::Next),
+            What::Bltu => (branched(BOp::Bltu, x, y, z, pc), CpuStep::Next),
+            What::Bgeu => (branched(BOp::Bgeu, x, y, z, pc), CpuStep::Next),
             What::Lui => self.next(f.rd, upper(f.imm), pc),
             What::Auipc => self.next(f.rd, pc.wrapping_add(upper(f.imm)), pc),
             What::Jal => self.jump(f.rd, pc.wrapping_add(z), pc),
             What::Ecall => self.call(code, pc),
-            What::Illegal => Err(CpuEnd::Illegal(pc)),
+            What::Illegal => (pc, CpuStep::Ended(CpuEnd::Illegal(pc))),
         }
     }
 
     /// To the next place, with a value in `rd`.
     #[inline(always)]
-    fn next(&mut self, rd: u8, value: u64, pc: u64) -> Result<u64, CpuEnd>
+    fn next(&mut self, rd: u8, value: u64, pc: u64) -> (u64, CpuStep)
         requires rd { rd < 32 }
         requires room { pc < 2 ^ 62 }
-        ensures { Turns (next_with (state_at pc self.old) rd value) result pc self.old self.new }
+        ensures { Steps (next_with (state_at pc self.old) rd value) result.1 (state_at pc self.old) (state_at result.0 self.new) }
     {
         self.write(rd, value);
-        Ok(pc + 4)
+        (pc + 4, CpuStep::Next)
     }
 
     /// To the next place, with the result of an operation in `rd`.
     #[inline(always)]
-    fn compute(&mut self, op: ROp, rd: u8, x: u64, y: u64, pc: u64) -> Result<u64, CpuEnd>
+    fn compute(&mut self, op: ROp, rd: u8, x: u64, y: u64, pc: u64) -> (u64, CpuStep)
         requires rd { rd < 32 }
         requires room { pc < 2 ^ 62 }
-        ensures { Turns (next_with (state_at pc self.old) rd (r_value op x y)) result pc self.old self.new }
+        ensures { Steps (next_with (state_at pc self.old) rd (r_value op x y)) result.1 (state_at pc self.old) (state_at result.0 self.new) }
     {
         self.next(rd, value_of_r(op, x, y), pc)
     }
 
     /// To a place, with the next one in `rd`.
     #[inline(always)]
-    fn jump(&mut self, rd: u8, to: u64, pc: u64) -> Result<u64, CpuEnd>
+    fn jump(&mut self, rd: u8, to: u64, pc: u64) -> (u64, CpuStep)
         requires rd { rd < 32 }
         requires room { pc < 2 ^ 62 }
-        ensures { Turns (jump (state_at pc self.old) rd to) result pc self.old self.new }
+        ensures { Steps (jump (state_at pc self.old) rd to) result.1 (state_at pc self.old) (state_at result.0 self.new) }
     {
         self.write(rd, pc + 4);
-        Ok(to)
+        (to, CpuStep::Next)
     }
 
     /// Loads a number of `width` bytes into `rd`.
     #[inline(always)]
-    fn load(
-        &mut self,
-        code: &Code,
-        width: usize,
-        rd: u8,
-        address: u64,
-        pc: u64,
-    ) -> Result<u64, CpuEnd>
+    fn load(&mut self, code: &Code, width: usize, rd: u8, address: u64, pc: u64) -> (u64, CpuStep)
         requires width { (width ≡ 1) ⊎ (width ≡ 2) ⊎ (width ≡ 4) ⊎ (width ≡ 8) }
         requires rd { rd < 32 }
         requires room { pc < 2 ^ 62 }
-        ensures { Turns (loads (image_of code.now) (state_at pc self.old) rd width address) result pc self.old self.new }
+        ensures { Steps (loads (image_of code.now) (state_at pc self.old) rd width address) result.1 (state_at pc self.old) (state_at result.0 self.new) }
     {
         match load(&code.constants, &self.memory, width, address) {
             Some(value) => self.next(rd, value, pc),
-            None => Err(CpuEnd::Load(pc)),
+            None => (pc, CpuStep::Ended(CpuEnd::Load(pc))),
         }
     }
 
@@ -157,43 +150,44 @@ impl Storage {
         rd: u8,
         address: u64,
         pc: u64,
-    ) -> Result<u64, CpuEnd>
+    ) -> (u64, CpuStep)
         requires width { (width ≡ 1) ⊎ (width ≡ 2) ⊎ (width ≡ 4) }
         requires rd { rd < 32 }
         requires room { pc < 2 ^ 62 }
-        ensures { Turns (loads_signed (image_of code.now) (state_at pc self.old) rd width address) result pc self.old self.new }
+        ensures { Steps (loads_signed (image_of code.now) (state_at pc self.old) rd width address) result.1 (state_at pc self.old) (state_at result.0 self.new) }
     {
         match load(&code.constants, &self.memory, width, address) {
             Some(value) => self.next(rd, extend_bytes(width, value), pc),
-            None => Err(CpuEnd::Load(pc)),
+            None => (pc, CpuStep::Ended(CpuEnd::Load(pc))),
         }
     }
 
     /// Stores the `width` lowest bytes of a number.
     #[inline(always)]
-    fn store(&mut self, width: usize, address: u64, value: u64, pc: u64) -> Result<u64, CpuEnd>
+    fn store(&mut self, width: usize, address: u64, value: u64, pc: u64) -> (u64, CpuStep)
         requires width { (width ≡ 1) ⊎ (width ≡ 2) ⊎ (width ≡ 4) ⊎ (width ≡ 8) }
         requires room { pc < 2 ^ 62 }
-        ensures { Turns (store_step (state_at pc self.old) (stored (state_at pc self.old).memory width address value)) result pc self.old self.new }
+        ensures { Steps (store_step (state_at pc self.old) (stored (state_at pc self.old).memory width address value)) result.1 (state_at pc self.old) (state_at result.0 self.new) }
     {
         if store(&mut self.memory, width, address, value) {
-            Ok(pc + 4)
+            (pc + 4, CpuStep::Next)
         } else {
-            Err(CpuEnd::Store(pc))
+            (pc, CpuStep::Ended(CpuEnd::Store(pc)))
         }
     }
 
     /// Makes a call: one on a unit is answered, and any other ends the run.
-    fn call(&mut self, code: &Code, pc: u64) -> Result<u64, CpuEnd>
+    fn call(&mut self, code: &Code, pc: u64) -> (u64, CpuStep)
         requires { pc < 2 ^ 62 }
-        ensures { Turns (ecall (image_of code.now) (state_at pc self.old)) result pc self.old self.new }
+        ensures { Steps (ecall (image_of code.now) (state_at pc self.old)) result.1 (state_at pc self.old) (state_at result.0 self.new) }
     {
         if self.is_unit_call(&code.constants) {
             self.write(10, ABSENT);
             self.failed = None;
-            Ok(pc + 4)
+            (pc + 4, CpuStep::Next)
         } else {
-            Err(self.end_of_call(code.places.len() as u64, pc))
+            let end = self.end_of_call(code.places.len() as u64, pc);
+            (pc, CpuStep::Ended(end))
         }
     }
 }

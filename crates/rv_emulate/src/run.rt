@@ -3,7 +3,7 @@
 ghost use Rattle.rv_emulate.specs.CpuView.{code_run, state_of, Runs};
 
 use crate::code::Code;
-use crate::end::CpuEnd;
+use crate::end::{CpuEnd, CpuStep};
 use crate::hart::Hart;
 
 /// The steps of a round, which are counted in 64 bits.
@@ -28,9 +28,11 @@ impl Hart {
     {
         let mut pc = self.pc;
         for turn in 0..steps {
-            match self.storage.turn(code, pc) {
-                Ok(to) => pc = to,
-                Err(end) => {
+            let (to, step) = self.storage.turn(code, pc);
+            pc = to;
+            match step {
+                CpuStep::Next => {}
+                CpuStep::Ended(end) => {
                     self.pc = pc;
                     return Some(end);
                 }

@@ -1,7 +1,7 @@
 // One instruction.
 
 ghost use Rattle.std.specs.Prelude.{◌≡◌, ◌<◌, ◌^◌, IfSome, option_map, map};
-ghost use Rattle.rv_emulate.specs.CpuView.{code_step, instr_at, instr_of, state_at, state_of, Steps, Turns};
+ghost use Rattle.rv_emulate.specs.CpuView.{code_step, instr_at, instr_of, state_at, state_of, Steps};
 
 use crate::code::Code;
 use crate::end::{CpuEnd, CpuStep};
@@ -15,25 +15,21 @@ impl Hart {
     pub(crate) fn step(&mut self, code: &Code) -> CpuStep
         ensures { Steps (code_step code.now (state_of self.old)) result (state_of self.old) (state_of self.new) }
     {
-        match self.storage.turn(code, self.pc) {
-            Ok(to) => {
-                self.pc = to;
-                CpuStep::Next
-            }
-            Err(end) => CpuStep::Ended(end),
-        }
+        let (to, step) = self.storage.turn(code, self.pc);
+        self.pc = to;
+        step
     }
 }
 
 impl Storage {
-    /// Makes the step at `pc`, and answers the place of the next one; or says how the run ends, and
-    /// changes nothing.
+    /// Makes the step at `pc`, and answers the place of the next one; or stays there, says how the run
+    /// ends, and changes nothing.
     #[tactic(auto, unfolding(crate::specs::CpuView::code_step))]
-    pub(crate) fn turn(&mut self, code: &Code, pc: u64) -> Result<u64, CpuEnd>
-        ensures { Turns (code_step code.now (state_at pc self.old)) result pc self.old self.new }
+    pub(crate) fn turn(&mut self, code: &Code, pc: u64) -> (u64, CpuStep)
+        ensures { Steps (code_step code.now (state_at pc self.old)) result.1 (state_at pc self.old) (state_at result.0 self.new) }
     {
         match fetch(code, pc) {
-            None => Err(CpuEnd::Fetch(pc)),
+            None => (pc, CpuStep::Ended(CpuEnd::Fetch(pc))),
             Some(f) => self.act(code, f, pc),
         }
     }
