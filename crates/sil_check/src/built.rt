@@ -5,7 +5,7 @@ ghost use Rattle.sil_check.specs.Built.{is_built};
 use sil_macros::{Macro, number_of_macro};
 
 /// The macros that are installed so far.
-pub const BUILT: [Macro; 71] = [
+pub const BUILT: [Macro; 73] = [
     Macro::Acomp,
     Macro::Acompc,
     Macro::Adjust,
@@ -53,10 +53,12 @@ pub const BUILT: [Macro; 71] = [
     Macro::Putd,
     Macro::Putdc,
     Macro::Putvc,
+    Macro::Rcall,
     Macro::Rcomp,
     Macro::Realst,
     Macro::Resetf,
     Macro::Rlint,
+    Macro::Rrturn,
     Macro::Rsetfi,
     Macro::Sbreal,
     Macro::Setac,
