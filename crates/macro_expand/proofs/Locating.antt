@@ -33,6 +33,7 @@ located program settings k count statement rows is e = all_locate (bounds_of pro
 
 few : (b : Bounds) (arg : Arg) → IsWithin b arg → HasFewItems arg
 few b (Places ats) h = h.0
+few b (Gotos locations) h = h.0
 few b _ h = tt
 
 -- the lists of the statement of a number
