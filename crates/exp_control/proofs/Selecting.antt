@@ -1,10 +1,9 @@
 -- A selection by number.
-use Rattle.std.proofs.Common.{◌≡◌, ℕ, ◌+◌, ◌*◌, ◌<◌, ◌≤◌, List, [], ◌∷◌, length, Option, All, false, refl, arith}
+use Rattle.std.proofs.Common.{ℕ, ◌+◌, ◌*◌, ◌<◌, ◌≤◌, List, [], ◌∷◌, length, Option, All, false, refl, arith}
 use Rattle.std.specs.Prelude.{ℤ}
 use Rattle.sil_macros.specs.declared.names.Macro.TheVariants.{Selbra}
 use Rattle.sil_model.specs.declared.program.Arg.TheVariants.{Gotos, Place}
 use Rattle.sil_model.specs.declared.program.Specials.{Specials}
-use Rattle.sil_model.specs.Arguments.{nth_location}
 use Rattle.sil_model.specs.Costs.{visits}
 use Rattle.sil_model.specs.Effects.{on_memory}
 use Rattle.sil_model.specs.FlowClauses.{selbra}

@@ -27,11 +27,7 @@ fn append_head(code: &mut Code, k: u32, d: i64) -> Result<(), AllocError>
 }
 
 /// Jumps to the locations, each where register 2 holds its number.
-fn append_choices(
-    code: &mut Code,
-    k: u32,
-    locations: &[Option<u32>],
-) -> Result<(), AllocError>
+fn append_choices(code: &mut Code, k: u32, locations: &[Option<u32>]) -> Result<(), AllocError>
     requires room { length code.old.ops + 500 < 2 ^ 32 }
     requires few { length locations.now ≤ 100 }
     requires number { k < 2 ^ 31 }

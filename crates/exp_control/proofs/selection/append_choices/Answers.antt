@@ -1,4 +1,4 @@
-use Rattle.std.proofs.Common.{◌≡◌, ap, pos, append-nil, sym, subst, arith}
+use Rattle.std.proofs.Common.{◌≡◌, ap, append-nil, sym, subst, arith}
 use Rattle.std.proofs.lemmas.Int.{ints}
 use Rattle.std.proofs.lemmas.List.{take_all}
 use Rattle.sil_micro.specs.Codes.{appended}
