@@ -110,10 +110,7 @@ static FLOW: [(&[u8], End); 38] = [
         b" SELBRA P,(,,,,,,,,,,,,,,,,,,,,,,,,,,,,,,,,,,,,,,,L)\n ENDEX Z\nL ENDEX ONE\nP DESCR 40\n",
         End::Exit(1),
     ),
-    (
-        b"K SELBRA P,K\n ENDEX Z\nP DESCR 1\n",
-        End::Budget,
-    ),
+    (b"K SELBRA P,K\n ENDEX Z\nP DESCR 1\n", End::Budget),
     (b" SELBRA ONE\n ENDEX Z\n", End::Exit(0)),
     (b" SELBRA S,(,L)\nL ENDEX Z\n", End::Undefined(0)),
     // the dynamic storage, of a hundred cells, with the stack behind it
@@ -189,7 +186,10 @@ fn jumps_traps_and_time(rt: HostRuntime) -> Result<(), Fail> {
         }
         for (i, statement) in TRAPS.iter().enumerate() {
             let source = source_of(alloc, 0, statement)?;
-            assert!(rt; ends_so(alloc, &source, sizes, 9, Some(End::Trap(0)))?, "{i}");
+            assert!(rt;
+                ends_so(alloc, &source, sizes, 9, Some(End::Trap(0)))?,
+                "{i}"
+            );
         }
     }
     Ok(())
