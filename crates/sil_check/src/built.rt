@@ -5,7 +5,7 @@ ghost use Rattle.sil_check.specs.Built.{is_built};
 use sil_macros::{Macro, number_of_macro};
 
 /// The macros that are installed so far.
-pub const BUILT: [Macro; 73] = [
+pub const BUILT: [Macro; 75] = [
     Macro::Acomp,
     Macro::Acompc,
     Macro::Adjust,
@@ -28,6 +28,7 @@ pub const BUILT: [Macro; 73] = [
     Macro::Getsiz,
     Macro::Incra,
     Macro::Incrv,
+    Macro::Init,
     Macro::Intrl,
     Macro::Istack,
     Macro::Lcomp,
@@ -61,6 +62,7 @@ pub const BUILT: [Macro; 73] = [
     Macro::Rrturn,
     Macro::Rsetfi,
     Macro::Sbreal,
+    Macro::Selbra,
     Macro::Setac,
     Macro::Setav,
     Macro::Setf,
