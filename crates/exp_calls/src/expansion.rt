@@ -7,7 +7,6 @@ ghost use Rattle.sil_micro.specs.Pieces.{weights};
 ghost use Rattle.exp_choices.specs.Locations.{LocatesWithin};
 ghost use Rattle.exp_stack.specs.Allowed.{AreAmong, HasFewItems};
 ghost use Rattle.exp_calls.specs.CallHalves.{ExpandsCall};
-ghost use Rattle.exp_calls.specs.CallOperands.{HasFewLocations};
 
 use crate::calls::rcall;
 use crate::operands::{arguments, descriptor, locations, procedure};
@@ -36,7 +35,6 @@ pub fn expand_call(
     requires group { IsTrue (is_rcall statement.now.name) }
     requires fits { IsTrue (fit (row statement.now.name).places statement.now.args) }
     requires items { All HasFewItems statement.now.args }
-    requires few_locations { All HasFewLocations statement.now.args }
     requires locations { All (LocatesWithin (length code.old.entries)) statement.now.args }
     requires among { AreAmong (length code.old.entries) specials.now }
     requires number { at < length code.old.entries }

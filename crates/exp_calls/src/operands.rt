@@ -4,7 +4,6 @@ ghost use Rattle.sil_macros.specs.OperandPlaces.{D, DD, LL, R, maybe};
 ghost use Rattle.sil_model.specs.Arguments.{goto_at, gotos_at, maybe_place_at, maybe_places_at};
 ghost use Rattle.sil_model.specs.Fits.{fit};
 ghost use Rattle.sil_model.specs.declared.program.Flow.TheVariants.{To};
-ghost use Rattle.exp_calls.specs.CallOperands.{HasFewLocations};
 ghost use Rattle.exp_stack.specs.Allowed.{HasFewItems};
 
 use sil_model::Arg;
@@ -49,7 +48,7 @@ pub(crate) fn arguments(args: &[Arg]) -> &[i64]
 /// The locations that a return may go to.
 pub(crate) fn locations(args: &[Arg]) -> &[Option<u32>]
     requires shape { IsTrue (fit (maybe D ∷ R ∷ maybe DD ∷ LL ∷ []) args.now) }
-    requires items { All HasFewLocations args.now }
+    requires items { All HasFewItems args.now }
     ensures value { gotos_at args.now 3 ≡ Some result.now }
     ensures few { length result.now ≤ 40 }
 {

@@ -1,1 +1,4 @@
+pub mod Choosing
+pub mod Selecting
 pub mod Settings
+pub mod StorageSymbols

@@ -1,19 +1,26 @@
 // The expansion of a statement whose macro is one of flow.
-ghost use Rattle.std.specs.Prelude.{◌≡◌, ◌+◌, ◌*◌, ◌<◌, ◌≤◌, ◌^◌, All, OnOk, IsTrue, length};
+ghost use Rattle.std.specs.Prelude.{◌≡◌, ◌+◌, ◌*◌, ◌<◌, ◌≤◌, ◌^◌, ◌∷◌, [], All, OnOk, IsTrue, false, length};
 ghost use Rattle.sil_macros.specs.MacroRows.{row};
+ghost use Rattle.sil_macros.specs.OperandPlaces.{D, LL};
+ghost use Rattle.sil_macros.specs.declared.names.Macro.TheVariants.{Selbra};
 ghost use Rattle.sil_model.specs.Costs.{visits};
+ghost use Rattle.sil_model.specs.Effects.{on_memory};
 ghost use Rattle.sil_model.specs.Fits.{fit};
+ghost use Rattle.sil_model.specs.FlowClauses.{selbra};
 ghost use Rattle.sil_model.specs.Prints.{writes_records};
 ghost use Rattle.sil_model.specs.Table.{clause};
 ghost use Rattle.sil_micro.specs.Expands.{Expands};
 ghost use Rattle.sil_micro.specs.Pieces.{weights};
 ghost use Rattle.exp_choices.specs.Locations.{LocatesWithin};
 ghost use Rattle.exp_control.specs.Group.{does_something, is_control};
+ghost use Rattle.exp_stack.specs.Allowed.{HasFewItems};
 
 use crate::ends::{nothing, trap};
 use crate::jumps::{branch, branic, load};
 use crate::operands::{location, place_alone, place_number, places_locations};
+use crate::selection::selbra;
 use crate::stack::{istack, pstack};
+use crate::storage::init;
 use crate::system::mstime;
 use sil_base::MAX_STATEMENTS;
 use sil_macros::Macro;
@@ -32,6 +39,7 @@ pub fn is_control(name: Macro) -> bool
             | Macro::Branic
             | Macro::Dvreal
             | Macro::Exreal
+            | Macro::Init
             | Macro::Intrl
             | Macro::Istack
             | Macro::Link
@@ -46,6 +54,7 @@ pub fn is_control(name: Macro) -> bool
             | Macro::Realst
             | Macro::Rlint
             | Macro::Sbreal
+            | Macro::Selbra
             | Macro::Spreal
             | Macro::Unload
     )
@@ -64,6 +73,7 @@ pub fn expand_control(
     requires group { IsTrue (is_control statement.now.name) }
     requires fits { IsTrue (fit (row statement.now.name).places statement.now.args) }
     requires locations { All (LocatesWithin (length code.old.entries)) statement.now.args }
+    requires items { All HasFewItems statement.now.args }
     requires number { at < length code.old.entries }
     requires few { length code.old.entries ≤ MAX_STATEMENTS }
     requires light { weights code.old.ops ≤ MAX_PIECE_WEIGHT * at }
@@ -101,6 +111,7 @@ fn expand_other(
     requires group { IsTrue (does_something name) }
     requires fits { IsTrue (fit (row name).places args.now) }
     requires locations { All (LocatesWithin (length code.old.entries)) args.now }
+    requires items { All HasFewItems args.now }
     requires number { at < length code.old.entries }
     requires few { length code.old.entries ≤ MAX_STATEMENTS }
     requires room { length code.old.ops + 1500 < 2 ^ 32 }
@@ -112,6 +123,7 @@ fn expand_other(
             let (d, n) = place_number(args);
             branic(code, at, specials, d, n)
         }
+        Macro::Init => init(code, at, specials),
         Macro::Istack => istack(code, at, specials),
         Macro::Load => {
             let (places, failure, success) = places_locations(args);
@@ -119,6 +131,30 @@ fn expand_other(
         }
         Macro::Mstime => mstime(code, at, specials, place_alone(args)),
         Macro::Pstack => pstack(code, at, specials, place_alone(args)),
+        Macro::Selbra => expand_selbra(args, at, specials, code),
+        _ => unreachable!(),
+    }
+}
+
+/// Expands a selection.
+fn expand_selbra(
+    args: &[Arg],
+    at: u32,
+    specials: &Specials,
+    code: &mut Code,
+) -> Result<(), AllocError>
+    requires fits { IsTrue (fit (D ∷ LL ∷ []) args.now) }
+    requires locations { All (LocatesWithin (length code.old.entries)) args.now }
+    requires items { All HasFewItems args.now }
+    requires number { at < length code.old.entries }
+    requires few { length code.old.entries ≤ MAX_STATEMENTS }
+    requires room { length code.old.ops + 1500 < 2 ^ 32 }
+    ensures { OnOk result (Expands code.old code.new at specials.now args.now (on_memory selbra) (visits Selbra) false) }
+{
+    match args {
+        [Arg::Place(d), Arg::Gotos(locations)] => {
+            selbra(code, at, specials, *d, locations.items())
+        }
         _ => unreachable!(),
     }
 }

@@ -1,4 +1,4 @@
-// The expansions of jumps, of traps, and of what the stack and the steps say, into micro operations.
+// The expansions of jumps, of traps, and of what the stack, the storage and the steps say, into micro operations.
 #![tactic(auto)]
 
 mod ends;
@@ -6,7 +6,9 @@ mod expansion;
 mod jumps;
 mod locations;
 mod operands;
+mod selection;
 mod stack;
+mod storage;
 mod system;
 
 pub use expansion::{expand_control, is_control};

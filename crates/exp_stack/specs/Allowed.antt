@@ -2,7 +2,7 @@
 use Rattle.std.specs.Prelude.{ℕ, ◌<◌, ◌≤◌, length, IfSome}
 use Rattle.sil_base.specs.declared.limits.TheConstants.{MAX_LIST_ITEMS}
 use Rattle.sil_model.specs.declared.program.Arg.{Arg}
-use Rattle.sil_model.specs.declared.program.Arg.TheVariants.{Places}
+use Rattle.sil_model.specs.declared.program.Arg.TheVariants.{Gotos, Places}
 use Rattle.sil_model.specs.declared.program.Specials.{Specials}
 
 -- OVER and INTR10 are among so many statements, where they are there
@@ -13,4 +13,5 @@ pub record AreAmong (count : ℕ) (specials : Specials) : Type 0 where
 -- a list has at most forty items
 abbrev pub HasFewItems : Arg → Type 0
 HasFewItems (Places ats) = length ats ≤ MAX_LIST_ITEMS
+HasFewItems (Gotos locations) = length locations ≤ MAX_LIST_ITEMS
 HasFewItems _ = Unit {0}

@@ -9,7 +9,6 @@ use Rattle.sil_model.specs.declared.program.Statement.{Statement}
 use Rattle.sil_model.proofs.Keeps.{all_at}
 use Rattle.sil_model.specs.Fits.{Bounds, bounds_of, FitsRow, IsStatement, IsWithin}
 use Rattle.sil_model.specs.WellFormed.{AreSpecials}
-use Rattle.exp_calls.specs.CallOperands.{HasFewLocations}
 use Rattle.exp_choices.specs.Locations.{IsAmong, LocatesWithin}
 use Rattle.exp_stack.specs.Allowed.{AreAmong, HasFewItems}
 
@@ -34,6 +33,7 @@ located program settings k count statement rows is e = all_locate (bounds_of pro
 
 few : (b : Bounds) (arg : Arg) → IsWithin b arg → HasFewItems arg
 few b (Places ats) h = h.0
+few b (Gotos locations) h = h.0
 few b _ h = tt
 
 -- the lists of the statement of a number
@@ -41,16 +41,6 @@ pub few_items : (program : Program) (settings : Settings) (k : ℕ) (statement :
 few_items program settings k statement rows is =
     let h = (all_at (FitsRow (bounds_of program settings)) program.statements k statement rows is).within in
     λ i d lt. few (bounds_of program settings) (slice_index_or statement.args i d) (h i d lt)
-
-few_gotos : (b : Bounds) (arg : Arg) → IsWithin b arg → HasFewLocations arg
-few_gotos b (Gotos locations) h = h.0
-few_gotos b _ h = tt
-
--- its lists of locations
-pub few_locations : (program : Program) (settings : Settings) (k : ℕ) (statement : Statement) → All (FitsRow (bounds_of program settings)) program.statements → slice_get program.statements k ≡ Some statement → All HasFewLocations statement.args
-few_locations program settings k statement rows is =
-    let h = (all_at (FitsRow (bounds_of program settings)) program.statements k statement rows is).within in
-    λ i d lt. few_gotos (bounds_of program settings) (slice_index_or statement.args i d) (h i d lt)
 
 pub specials_among : (program : Program) (settings : Settings) (count : ℕ) → AreSpecials program settings → count ≡ length program.statements → AreAmong count program.specials
 specials_among program settings count h e =

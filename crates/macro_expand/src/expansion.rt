@@ -9,7 +9,6 @@ ghost use Rattle.sil_model.specs.Table.{clause};
 ghost use Rattle.sil_model.specs.WellFormed.{IsWellFormed};
 ghost use Rattle.sil_micro.specs.Expands.{Expands};
 ghost use Rattle.sil_micro.specs.Pieces.{weights};
-ghost use Rattle.exp_calls.specs.CallOperands.{HasFewLocations};
 ghost use Rattle.exp_calls.specs.Group.{is_return};
 ghost use Rattle.exp_choices.specs.Locations.{LocatesWithin};
 ghost use Rattle.exp_stack.specs.Allowed.{AreAmong, HasFewItems};
@@ -65,7 +64,6 @@ fn expand(
     requires fits { IsTrue (fit (row statement.now.name).places statement.now.args) }
     requires locations { All (LocatesWithin (length code.old.entries)) statement.now.args }
     requires items { All HasFewItems statement.now.args }
-    requires few_locations { All HasFewLocations statement.now.args }
     requires among { AreAmong (length code.old.entries) specials.now }
     requires number { at < length code.old.entries }
     requires few { length code.old.entries ≤ MAX_STATEMENTS }

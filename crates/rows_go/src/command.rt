@@ -124,7 +124,12 @@ static INSTALLED: [(&[u8], &str, u8, &[u8]); 27] = [
         1,
         b"exit 1\n",
     ),
-    (b" MSTIME D\n ENDEX D\nD DESCR 1\n END\n", "5", 0, b"exit 0\n"),
+    (
+        b" MSTIME D\n ENDEX D\nD DESCR 1\n END\n",
+        "5",
+        0,
+        b"exit 0\n",
+    ),
     // no specifier is looked at
     (
         b" LOAD D,S,S,F\n ENDEX Z\nF ENDEX ONE\nD DESCR\nS BUFFER 2\nZ DESCR\nONE DESCR 1\n END\n",
@@ -357,10 +362,7 @@ static TOO_LONG: [(&str, &[u8]); 3] = [
 fn expect(rt: &impl Abort, answer: &Answer, code: u8, text: &[u8]) {
     assert_eq!(rt; answer.code, code);
     assert!(rt; answer.text.as_slice() == text);
-    assert_eq!(rt;
-        answer.image.is_some(),
-        matches!(code, 0 | 1 | 6 | 7 | 8)
-    );
+    assert_eq!(rt; answer.image.is_some(), matches!(code, 0 | 1 | 6 | 7 | 8));
 }
 
 /// The standard parameters, with one line in place of another.

@@ -50,7 +50,7 @@ pub fn job_of(alloc: Global, source: &[u8], sizes: &Sizes) -> Result<Job, Fail>
 pub fn image_end(alloc: Global, job: &Job, n: u64) -> Result<CpuEnd, Fail>
     requires well_formed { IsWellFormed job.now.program job.now.params.settings }
     requires expanded { AreExpanded job.now.program }
-    requires few { n ≤ 99 }
+    requires few { n ≤ 9999 }
 {
     let image = install(alloc, &job.program, &job.params)?;
     match run_image(alloc, &image, n, &mut Units::new()) {
@@ -78,7 +78,7 @@ pub fn ends_so(
     n: u64,
     wanted: Option<End>,
 ) -> Result<bool, Fail>
-    requires { n ≤ 99 }
+    requires { n ≤ 9999 }
 {
     let job = job_of(alloc, source, sizes)?;
     let end = sim(alloc, &job.program, &job.params, n, &mut Units::new());

@@ -1,4 +1,4 @@
-// Jumps, traps, time and the stack, under three layouts with a stack of sixteen cells.
+// Jumps, traps, time, storage and the stack, under three layouts with a stack of sixteen cells.
 use crate::ends::ends_so;
 use crate::texts::Sizes;
 use sil_machine::End;
@@ -17,7 +17,7 @@ const CELLS: &[u8] =
     b"Z DESCR\nONE DESCR 1\nA DESCR 4,3,2\nB DESCR 5,3,2\nD DESCR 9,9,9\nE DESCR 9,9,9\nS BUFFER 2\n END\n";
 
 /// Statements with cells of their own, and how they end. The entries of statements begin at 1879048192.
-static FLOW: [(&[u8], End); 23] = [
+static FLOW: [(&[u8], End); 38] = [
     (b" BRANCH L\n ENDEX ONE\nL ENDEX Z\n", End::Exit(0)),
     (b" BRANCH L,0\nK ENDEX Z\nL BRANCH K\n", End::Exit(0)),
     (b"L BRANCH L\n", End::Budget),
@@ -81,6 +81,59 @@ static FLOW: [(&[u8], End); 23] = [
         b" PUSH (A,B)\n ISTACK\n POP (E,D)\n ENDEX Z\nINTR10 DEQL D,E,BAD\n ENDEX ONE\nOVER ENDEX Z\nBAD ENDEX Z\n",
         End::Exit(1),
     ),
+    // to the location of a number, counted from 1
+    (
+        b" SELBRA P,(,L)\n ENDEX Z\nL ENDEX ONE\nP DESCR 2\n",
+        End::Exit(1),
+    ),
+    (
+        b" SELBRA P,(,L)\n ENDEX Z\nL ENDEX ONE\nP DESCR 0-1\n",
+        End::Exit(0),
+    ),
+    (
+        b" SELBRA P,(,L)\n ENDEX Z\nL ENDEX ONE\nP DESCR 0\n",
+        End::Exit(0),
+    ),
+    (
+        b" SELBRA P,(,L)\n ENDEX Z\nL ENDEX ONE\nP DESCR 1\n",
+        End::Exit(0),
+    ),
+    (
+        b" SELBRA P,(,L)\n ENDEX Z\nL ENDEX ONE\nP DESCR 3\n",
+        End::Exit(0),
+    ),
+    (
+        b" SELBRA P,(K,L)\n ENDEX Z\nL ENDEX Z\nK ENDEX ONE\nP DESCR 1\n",
+        End::Exit(1),
+    ),
+    (
+        b" SELBRA P,(,,,,,,,,,,,,,,,,,,,,,,,,,,,,,,,,,,,,,,,L)\n ENDEX Z\nL ENDEX ONE\nP DESCR 40\n",
+        End::Exit(1),
+    ),
+    (b"K SELBRA P,K\n ENDEX Z\nP DESCR 1\n", End::Budget),
+    (b" SELBRA ONE\n ENDEX Z\n", End::Exit(0)),
+    (b" SELBRA S,(,L)\nL ENDEX Z\n", End::Undefined(0)),
+    // the dynamic storage, of a hundred cells, with the stack behind it
+    (
+        b" INIT\n AEQL FRSGPT,HDSGPT,BAD\n SUBTRT D,TLSGP1,FRSGPT,BAD\n AEQLC D,100*DESCR,BAD\n VEQLC HDSGPT,3,BAD\n TESTF TLSGP1,2,BAD\n ENDEX Z\nBAD ENDEX ONE\nFRSGPT DESCR\nHDSGPT DESCR 1,2,3\nTLSGP1 DESCR 1,2,3\n",
+        End::Exit(0),
+    ),
+    (
+        b" INIT\n PUSH A\n PSTACK D\n INCRA D,DESCR\n AEQL D,TLSGP1,OVER\n GETDC E,TLSGP1,0\n DEQL E,A,OVER\n ENDEX Z\nOVER ENDEX ONE\nFRSGPT DESCR\nHDSGPT DESCR\nTLSGP1 DESCR\n",
+        End::Exit(0),
+    ),
+    (
+        b" INIT\n ENDEX Z\nFRSGPT BUFFER 1\nHDSGPT DESCR\nTLSGP1 DESCR\n",
+        End::Undefined(0),
+    ),
+    (
+        b" INIT\n ENDEX Z\nFRSGPT DESCR\nHDSGPT BUFFER 1\nTLSGP1 DESCR\n",
+        End::Undefined(0),
+    ),
+    (
+        b" INIT\n ENDEX Z\nFRSGPT DESCR\nHDSGPT DESCR\nTLSGP1 BUFFER 1\n",
+        End::Undefined(0),
+    ),
 ];
 
 /// Statements that trap, and nothing of whose operands is looked at.
@@ -133,7 +186,10 @@ fn jumps_traps_and_time(rt: HostRuntime) -> Result<(), Fail> {
         }
         for (i, statement) in TRAPS.iter().enumerate() {
             let source = source_of(alloc, 0, statement)?;
-            assert!(rt; ends_so(alloc, &source, sizes, 9, Some(End::Trap(0)))?, "{i}");
+            assert!(rt;
+                ends_so(alloc, &source, sizes, 9, Some(End::Trap(0)))?,
+                "{i}"
+            );
         }
     }
     Ok(())

@@ -5,7 +5,7 @@ ghost use Rattle.sil_check.specs.Built.{is_built};
 use sil_macros::{Macro, number_of_macro};
 
 /// The macros that are installed so far.
-pub const BUILT: [Macro; 71] = [
+pub const BUILT: [Macro; 75] = [
     Macro::Acomp,
     Macro::Acompc,
     Macro::Adjust,
@@ -28,6 +28,7 @@ pub const BUILT: [Macro; 71] = [
     Macro::Getsiz,
     Macro::Incra,
     Macro::Incrv,
+    Macro::Init,
     Macro::Intrl,
     Macro::Istack,
     Macro::Lcomp,
@@ -53,12 +54,15 @@ pub const BUILT: [Macro; 71] = [
     Macro::Putd,
     Macro::Putdc,
     Macro::Putvc,
+    Macro::Rcall,
     Macro::Rcomp,
     Macro::Realst,
     Macro::Resetf,
     Macro::Rlint,
+    Macro::Rrturn,
     Macro::Rsetfi,
     Macro::Sbreal,
+    Macro::Selbra,
     Macro::Setac,
     Macro::Setav,
     Macro::Setf,

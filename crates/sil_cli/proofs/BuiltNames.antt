@@ -1,7 +1,7 @@
 -- The macros that are installed so far are expanded.
 use Rattle.std.proofs.Common.{◌≡◌, true, refl}
 use Rattle.sil_macros.specs.declared.names.Macro.{Macro}
-use Rattle.sil_macros.specs.declared.names.Macro.TheVariants.{Acomp, Acompc, Adjust, Adreal, Aeql, Aeqlc, Aeqlic, Branch, Branic, Chkval, Decra, Deql, Divide, Dvreal, Endex, Exreal, Getac, Getd, Getdc, Getsiz, Incra, Incrv, Intrl, Istack, Lcomp, Leqlc, Link, Load, Mnreal, Mnsint, Mova, Movd, Movdic, Movv, Mpreal, Mstime, Mult, Multc, Ordvst, Pop, Proc, Pstack, Push, Putac, Putd, Putdc, Putvc, Rcomp, Realst, Resetf, Rlint, Rsetfi, Sbreal, Setac, Setav, Setf, Setfi, Setsiz, Setva, Setvc, Spop, Spreal, Spush, Subtrt, Sum, Testf, Testfi, Unload, Vcmpic, Veql, Veqlc}
+use Rattle.sil_macros.specs.declared.names.Macro.TheVariants.{Acomp, Acompc, Adjust, Adreal, Aeql, Aeqlc, Aeqlic, Branch, Branic, Chkval, Decra, Deql, Divide, Dvreal, Endex, Exreal, Getac, Getd, Getdc, Getsiz, Incra, Incrv, Init, Intrl, Istack, Lcomp, Leqlc, Link, Load, Mnreal, Mnsint, Mova, Movd, Movdic, Movv, Mpreal, Mstime, Mult, Multc, Ordvst, Pop, Proc, Pstack, Push, Putac, Putd, Putdc, Putvc, Rcall, Rcomp, Realst, Resetf, Rlint, Rrturn, Rsetfi, Sbreal, Selbra, Setac, Setav, Setf, Setfi, Setsiz, Setva, Setvc, Spop, Spreal, Spush, Subtrt, Sum, Testf, Testfi, Unload, Vcmpic, Veql, Veqlc}
 use Rattle.sil_check.specs.Built.{is_built}
 use Rattle.macro_expand.specs.Expanded.{is_expanded}
 
@@ -29,6 +29,7 @@ built_is_expanded Getdc h = refl
 built_is_expanded Getsiz h = refl
 built_is_expanded Incra h = refl
 built_is_expanded Incrv h = refl
+built_is_expanded Init h = refl
 built_is_expanded Intrl h = refl
 built_is_expanded Istack h = refl
 built_is_expanded Lcomp h = refl
@@ -54,12 +55,15 @@ built_is_expanded Putac h = refl
 built_is_expanded Putd h = refl
 built_is_expanded Putdc h = refl
 built_is_expanded Putvc h = refl
+built_is_expanded Rcall h = refl
 built_is_expanded Rcomp h = refl
 built_is_expanded Realst h = refl
 built_is_expanded Resetf h = refl
 built_is_expanded Rlint h = refl
+built_is_expanded Rrturn h = refl
 built_is_expanded Rsetfi h = refl
 built_is_expanded Sbreal h = refl
+built_is_expanded Selbra h = refl
 built_is_expanded Setac h = refl
 built_is_expanded Setav h = refl
 built_is_expanded Setf h = refl

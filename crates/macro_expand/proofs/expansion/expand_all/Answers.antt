@@ -1,7 +1,7 @@
 use Rattle.std.proofs.Common.{◌≡◌, length, ap, arith, subst}
 use Rattle.macro_expand.proofs.Costs.{makes_step}
 use Rattle.macro_expand.proofs.Growing.{statement_at, SoFar}
-use Rattle.macro_expand.proofs.Locating.{few_items, few_locations, located, specials_among}
+use Rattle.macro_expand.proofs.Locating.{few_items, located, specials_among}
 use Rattle.macro_expand.proofs.Running.{runs_to}
 use Rattle.macro_expand.proofs.Stepping.{step}
 use Rattle.macro_expand.proofs.Whole.{whole}
@@ -15,11 +15,6 @@ expand-requires-clause-locations c =
 pub expand-requires-clause-items : goal.expand-requires-clause-items
 expand-requires-clause-items c =
     few_items c.args.program.now c.args.params.now.settings c.loop-k.k c.index-statements-k.result c.requires.well_formed.rows
-    (statement_at c.args.program.now c.items-statements.result.now c.loop-k.k c.index-statements-k.result c.items-statements.ensures c.loop-k-test.true c.index-statements-k.is)
-
-pub expand-requires-clause-few_locations : goal.expand-requires-clause-few_locations
-expand-requires-clause-few_locations c =
-    few_locations c.args.program.now c.args.params.now.settings c.loop-k.k c.index-statements-k.result c.requires.well_formed.rows
     (statement_at c.args.program.now c.items-statements.result.now c.loop-k.k c.index-statements-k.result c.items-statements.ensures c.loop-k-test.true c.index-statements-k.is)
 
 pub expand-requires-clause-among : goal.expand-requires-clause-among
