@@ -22,8 +22,10 @@ fn run(rt: &HostRuntime) -> io::Result<u8> {
     let mut units = Units::new();
     let _ = units.attach(5, Box::new(alloc, InputUnit::new(alloc, rt.stdin())?)?);
     let _ = units.attach(6, Box::new(alloc, OutputUnit::new(alloc, rt.stdout())?)?);
-    for n in [1, 2, 3, 4, 7, 8, 9, 10, 11, 12, 13, 14, 15] {
-        let _ = units.attach(n, Box::new(alloc, FileUnit::new(*rt, alloc, n)?)?);
+    for n in 1..16 {
+        if n != 5 && n != 6 {
+            let _ = units.attach(n, Box::new(alloc, FileUnit::new(*rt, alloc, n)?)?);
+        }
     }
     let status = sil_main(alloc, &words, &mut store, &mut units, &mut notes);
     let failed = units.close_all();
