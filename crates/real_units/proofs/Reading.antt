@@ -38,34 +38,34 @@ overlaid-past (b ∷ bytes) (first ∷ old) byte h = ap (λ rest. b ∷ rest) (o
 pub none_so_far : (known : Option (List ℕ)) (old : List ℕ) → IfSome known (λ text. SoFar text 0 known old old)
 none_so_far None old = tt
 none_so_far (Some text) old = record {
-    bytes = [];
-    rest = text;
-    left_is = refl;
-    text_is = refl;
-    count_is = refl;
-    records = refl;
-    copied = overlaid-none old;
-  }
+  bytes = [];
+  rest = text;
+  left_is = refl;
+  text_is = refl;
+  count_is = refl;
+  records = refl;
+  copied = overlaid-none old;
+}
 
 copied_more : (count byte : ℕ) (bytes old new then : List ℕ) → length bytes ≡ count → new ≡ overlaid (Some bytes) old → length new ≡ length old → (count < length new → then ≡ slice_set new count byte) → (length new ≤ count → then ≡ new) → then ≡ overlaid (Some (bytes ++ byte ∷ [])) old
 copied_more count byte bytes old new then counted copied same there past =
     elim (cases_lt count (length old)) [
-        inl below ↦
-            there (omega arith) ∙ ap (λ list. slice_set list count byte) copied ∙ ap (λ k. slice_set (overlaid (Some bytes) old) k byte) (sym counted) ∙ overlaid-there bytes old byte (omega arith)
+      | inl below ↦
+          there (omega arith) ∙ ap (λ list. slice_set list count byte) copied ∙ ap (λ k. slice_set (overlaid (Some bytes) old) k byte) (sym counted) ∙ overlaid-there bytes old byte (omega arith)
       | inr above ↦ past (omega arith) ∙ copied ∙ overlaid-past bytes old byte (omega arith)
     ]
 
 more_at : (text : List ℕ) (left after : Option (List ℕ)) (count byte : ℕ) (old new then : List ℕ) (so : SoFar text count left old new) → byte ≢ 10 → IsSomeAnd after (λ more. so.rest ≡ byte ∷ more) → length new ≡ length old → (count < length new → then ≡ slice_set new count byte) → (length new ≤ count → then ≡ new) → SoFar text (count + 1) after old then
 more_at text left None count byte old new then so other taken same there past = absurd taken
 more_at text left (Some rest) count byte old new then so other taken same there past = record {
-    bytes = so.bytes ++ byte ∷ [];
-    rest = rest;
-    left_is = refl;
-    text_is = rw append_assoc (so.text_is ∙ ap (λ list. so.bytes ++ list) taken);
-    count_is = omega (arith, length-append so.bytes (byte ∷ []), so.count_is);
-    records = so.records ∙ ap (λ list. onto_all so.bytes (records_in list)) taken ∙ ap (onto_all so.bytes) (records_in-cons byte rest other) ∙ onto_all-more so.bytes byte (records_in rest);
-    copied = copied_more count byte so.bytes old new then so.count_is so.copied same there past;
-  }
+  bytes = so.bytes ++ byte ∷ [];
+  rest = rest;
+  left_is = refl;
+  text_is = rw append_assoc (so.text_is ∙ ap (λ list. so.bytes ++ list) taken);
+  count_is = omega (arith, length-append so.bytes (byte ∷ []), so.count_is);
+  records = so.records ∙ ap (λ list. onto_all so.bytes (records_in list)) taken ∙ ap (onto_all so.bytes) (records_in-cons byte rest other) ∙ onto_all-more so.bytes byte (records_in rest);
+  copied = copied_more count byte so.bytes old new then so.count_is so.copied same there past;
+}
 
 -- another byte of the record is taken
 pub more_so_far : (known left after : Option (List ℕ)) (count byte : ℕ) (old new then : List ℕ) → IfSome known (λ text. SoFar text count left old new) → IfSome left (λ text. TakesByte text (next.Byte byte) after) → byte ≢ 10 → length new ≡ length old → (count < length new → then ≡ slice_set new count byte) → (length new ≤ count → then ≡ new) → IfSome known (λ text. SoFar text (count + 1) after old then)
@@ -77,12 +77,12 @@ ended_at : (text : List ℕ) (left after : Option (List ℕ)) (count byte got : 
 ended_at text left None count byte got old new so is taken same most answer = absurd taken
 ended_at text left (Some rest) count byte got old new so is taken same most answer =
     let records : records_in text ≡ so.bytes ∷ records_in rest =
-        so.records ∙ ap (λ list. onto_all so.bytes (records_in list)) (taken ∙ ap (λ first. first ∷ rest) is) ∙ onto_all-cons so.bytes [] (records_in rest) ∙ ap (λ first. first ∷ records_in rest) (append-nil so.bytes) in
+    so.records ∙ ap (λ list. onto_all so.bytes (records_in list)) (taken ∙ ap (λ first. first ∷ rest) is) ∙ onto_all-cons so.bytes [] (records_in rest) ∙ ap (λ first. first ∷ records_in rest) (append-nil so.bytes) in
     let first : IsFirstRecord text so.bytes rest false = record {
-          text_is = rw append_assoc (so.text_is ∙ ap (λ list. so.bytes ++ list) (taken ∙ ap (λ first. first ∷ rest) is));
-          last = λ e. absurd (cc);
-          records = records;
-        } in
+      text_is = rw append_assoc (so.text_is ∙ ap (λ list. so.bytes ++ list) (taken ∙ ap (λ first. first ∷ rest) is));
+      last = λ e. absurd (cc);
+      records = records;
+    } in
     (so.bytes, first, omega (arith, so.count_is), omega (arith, so.count_is), so.copied)
 
 -- an LF ends the record
@@ -100,12 +100,12 @@ last_at text left None count got old new so none ends some same most answer = ab
 last_at text left (Some rest) count got old new so none ends some same most answer =
     let empty : [] ≡ rest = cc in
     let records : records_in text ≡ so.bytes ∷ records_in rest =
-        so.records ∙ ap (λ list. onto_all so.bytes (records_in list)) none ∙ onto_all-some so.bytes (λ e. some (sym so.count_is ∙ e)) ∙ ap (λ list. so.bytes ∷ records_in list) empty in
+    so.records ∙ ap (λ list. onto_all so.bytes (records_in list)) none ∙ onto_all-some so.bytes (λ e. some (sym so.count_is ∙ e)) ∙ ap (λ list. so.bytes ∷ records_in list) empty in
     let first : IsFirstRecord text so.bytes rest true = record {
-          text_is = so.text_is ∙ ap (λ list. so.bytes ++ list) (none ∙ empty);
-          last = λ _. sym empty;
-          records = records;
-        } in
+      text_is = so.text_is ∙ ap (λ list. so.bytes ++ list) (none ∙ empty);
+      last = λ _. sym empty;
+      records = records;
+    } in
     (so.bytes, first, omega (arith, so.count_is), omega (arith, so.count_is), so.copied)
 
 -- the end of the text ends the record

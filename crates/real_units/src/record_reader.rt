@@ -96,7 +96,7 @@ impl<R: Read + Drop> RecordReader<R> {
     pub fn read(&mut self, into: &mut [u8]) -> ReadAnswer
         ensures reads { IfSome (bytes_left R.remaining self.old)
             (λ text. ReadsRecord text result into.old into.new
-                (bytes_left R.remaining self.new) (reader_unended self.new)) }
+            (bytes_left R.remaining self.new) (reader_unended self.new)) }
         ensures place { MovesPlace (bytes_left R.remaining self.old)
             (bytes_left R.remaining self.new) (reader_place self.old) (reader_place self.new) }
         ensures fits { ReadFits result (length into.old) }

@@ -249,7 +249,10 @@ fn records_are_written_on_a_stream(rt: HostRuntime) -> Result<(), Fail> {
             }
         }
         assert!(rt; log.bytes.as_slice() == target.wrote, "row {row}");
-        assert!(rt; target.writes.is_none_or(|writes| writes == log.calls), "row {row}");
+        assert!(rt;
+            target.writes.is_none_or(|writes| writes == log.calls),
+            "row {row}"
+        );
     }
     Ok(())
 }

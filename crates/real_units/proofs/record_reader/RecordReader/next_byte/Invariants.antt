@@ -5,6 +5,6 @@ use Rattle.real_units.proofs.record_reader.RecordReader.next_byte.Given as goal
 
 abbrev pub invariant-loop : goal.invariant-loop
 invariant-loop g l = record {
-    kept : Keeps (bytes_left g.R.Read.remaining l.initial.self) (bytes_left g.R.Read.remaining l.self);
-    place : reader_place l.self ≡ reader_place l.initial.self;
-  }
+  kept : Keeps (bytes_left g.R.Read.remaining l.initial.self) (bytes_left g.R.Read.remaining l.self);
+  place : reader_place l.self ≡ reader_place l.initial.self;
+}

@@ -12,6 +12,6 @@ returns-in-End-clause-reads g c =
 
 pub loop-count-preserved : goal.loop-count-preserved
 loop-count-preserved g c = record {
-    so_far = more_so_far _ _ _ c.loop-count.count c.in-Byte.byte c.args.into.now c.loop-count.into c.put_at.new.into c.loop-count.invariant.so_far c.in-Byte.ensures.taken (search rules) c.loop-count.auto.into c.put_at.ensures.there c.put_at.ensures.past;
-    place = λ (fits : c.args.self.now.place + (c.loop-count.count + 1) < 2 ^ 64). omega (arith, c.in-Byte.ensures.place, c.loop-count.invariant.place);
-  }
+  so_far = more_so_far _ _ _ c.loop-count.count c.in-Byte.byte c.args.into.now c.loop-count.into c.put_at.new.into c.loop-count.invariant.so_far c.in-Byte.ensures.taken (search rules) c.loop-count.auto.into c.put_at.ensures.there c.put_at.ensures.past;
+  place = λ (fits : c.args.self.now.place + (c.loop-count.count + 1) < 2 ^ 64). omega (arith, c.in-Byte.ensures.place, c.loop-count.invariant.place);
+}
