@@ -13,6 +13,8 @@ mod ends;
 #[cfg(test)]
 mod flow;
 #[cfg(test)]
+mod lists;
+#[cfg(test)]
 mod rows;
 #[cfg(test)]
 mod source;
