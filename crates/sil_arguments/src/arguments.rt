@@ -120,7 +120,12 @@ fn text_of(alloc: Global, bound: &BoundSource<'_>, expr: &Expr) -> Result<Record
 }
 
 /// An expression in a place of this kind.
-fn arg_by(alloc: Global, bound: &BoundSource<'_>, kind: Kind, expr: &Expr) -> Result<Arg, ProgramStop>
+fn arg_by(
+    alloc: Global,
+    bound: &BoundSource<'_>,
+    kind: Kind,
+    expr: &Expr,
+) -> Result<Arg, ProgramStop>
     requires { IsBound bound.now }
     ensures { let made = arg_by (scope_in bound.now) kind expr.now
         in MatchResult result (λ a. made ≡ Some a) (IsUnmade made) }
