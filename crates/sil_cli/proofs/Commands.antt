@@ -1,5 +1,5 @@
 -- What commands come to.
-use Rattle.std.proofs.Common.{◌≡◌, ℕ, ◌≤◌, ◌^◌, List, Option, None, Some, option_map, IfSome, IfOk, IfErr, OnErr, MatchResult, IsOkAnd, true, false, refl, sym, ap, ◌∙◌, Ok, Err}
+use Rattle.std.proofs.Common.{◌≡◌, ℕ, ◌≤◌, ◌^◌, List, Option, None, Some, option_map, IfSome, IfOk, IfErr, OnErr, IsOkAnd, true, false, refl, sym, ap, ◌∙◌, Ok, Err}
 use Rattle.std.specs.Prelude.{is_some}
 use Rattle.std.specs.declared.result.Result.{Result}
 use Rattle.std.specs.FinMap.{insert}
@@ -21,38 +21,14 @@ use Rattle.sil_cli.specs.declared.ending.Ending.TheVariants as ending
 use Rattle.sil_cli.specs.declared.ending.Stop.{Stop}
 use Rattle.sil_cli.specs.declared.ending.Stop.TheVariants as stop
 use Rattle.sil_cli.specs.Answer.{Performs, StopsSo}
-use Rattle.sil_cli.specs.Endings.{ending_of, stop_by, is_free, is_free_end, IsProgramEnd}
-use Rattle.sil_check.specs.declared.stop.CheckStop.{CheckStop}
-use Rattle.sil_check.specs.declared.stop.CheckStop.TheVariants as check
+use Rattle.sil_cli.specs.Endings.{ending_of, is_free, is_free_end, IsProgramEnd}
 use Rattle.sil_check.specs.CheckedPrograms.{Job}
-use Rattle.sil_check.specs.CheckStops as checks
-use Rattle.sil_check.specs.CheckStops.{CheckCause}
-use Rattle.sil_cli.specs.CommandFiles.{StopCause, SavesOr, job_at}
+use Rattle.sil_cli.specs.CommandFiles.{SavesOr, job_at}
 use Rattle.sil_cli.specs.Report.{Comes, Keeps, Causes, EndingCause, has_run}
 use Rattle.sil_cli.specs.ImageRuns.{RunsBytes}
 use Rattle.sil_cli.specs.CommandWords.{Order}
 use Rattle.sil_cli.proofs.RunEnds.{IsPlain, HasSmallExit, has-end, run-plain, emulation-small, program-end}
 use Rattle.sil_cli.proofs.Maps.{remove-insert}
-
--- ---- checked
-
-same-free : (c : CheckStop) → is_free (stop_by c) ≡ checks.is_free c
-same-free (check.Missing name) = refl
-same-free (check.TooLong name) = refl
-same-free (check.Failed name) = refl
-same-free (check.Params fault) = refl
-same-free (check.Faults faults) = refl
-same-free check.NotBuilt = refl
-same-free check.Memory = refl
-
-check-cause : (c : CheckStop) (b a : ℕ) → CheckCause c b a → StopCause (stop_by c) b a
-check-cause (check.Missing name) b a h = tt
-check-cause (check.TooLong name) b a h = tt
-check-cause (check.Failed name) b a h = h
-check-cause (check.Params fault) b a h = tt
-check-cause (check.Faults faults) b a h = tt
-check-cause check.NotBuilt b a h = tt
-check-cause check.Memory b a h = tt
 
 -- ---- saved
 

@@ -23,7 +23,6 @@ use Rattle.sil_cli.specs.Answer.{Answers, Finishes}
 use Rattle.sil_cli.specs.Endings.{status_of, is_free_end, stop_by}
 use Rattle.sil_cli.specs.Headline.{HasJob, FinishesTapes, Reports, Does, Headline}
 use Rattle.sil_base.specs.declared.limits.TheConstants.{MAX_FILE_BYTES}
-use Rattle.sil_check.specs.CheckedPrograms.{Job}
 use Rattle.sil_check.specs.CheckStops.{stop_by_load, stop_by_program}
 use Rattle.sil_check.specs.Inputs.{Cards, loaded, on_result, and_then, source_by, inputs_of, unless_faulty, parameters_by, job_in, checked_of}
 use Rattle.sil_base.specs.Loads.{of_file, stopping}
