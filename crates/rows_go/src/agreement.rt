@@ -2,7 +2,7 @@
 ghost use Rattle.std.specs.Prelude.{◌≤◌};
 
 use crate::go::{files, go};
-use crate::programs::job_of;
+use crate::programs::checked_of;
 use rv_emulate::CpuEnd;
 use sil_cli::run_image;
 use sil_machine::{End, sim};
@@ -57,9 +57,9 @@ fn ends_alike(alloc: Global, source: &[u8], n: u64) -> Result<bool, Fail>
 {
     let answer = go(alloc, files(alloc, source, &[])?, "9")?;
     let image = answer.image.unwrap_or(Vec::new(alloc));
-    let job = job_of(alloc, source)?;
+    let checked = checked_of(alloc, source)?;
     let mut units = Units::new();
-    let end = sim(alloc, &job.program, &job.params, n, &mut units);
+    let end = sim(alloc, &checked.program, &checked.params, n, &mut units);
     match run_image(alloc, &image, n, &mut units) {
         Ok(cpu) => Ok(agree(end, cpu)),
         Err(_) => Ok(false),

@@ -3,7 +3,7 @@ ghost use Rattle.std.specs.Prelude.{◌≡◌, ◌≤◌, IfOk};
 ghost use Rattle.layout_params.specs.Parameters.{AreLegal, standard};
 ghost use Rattle.sil_model.specs.WellFormed.{IsWellFormed};
 
-use crate::programs::job_of;
+use crate::programs::checked_of;
 use layout_params::{
     Cell, Descr, ParamStop, Params, STANDARD_PARAMS, read_params, standard_text_is_standard,
 };
@@ -87,11 +87,11 @@ fn ends(
 /// Whether a source of these statements ends so.
 fn source_ends(alloc: Global, statements: &str, x: &str, n: u64, end: End) -> Result<bool, Fail> {
     let source = format!(in alloc; "{statements}\nX DESCR {x}\nZ DESCR\nONE DESCR 1\n END\n")?;
-    let job = job_of(alloc, source.as_bytes())?;
+    let checked = checked_of(alloc, source.as_bytes())?;
     if n > 8 {
         return Ok(false);
     }
-    Ok(ends(alloc, &job.program, &job.params, n, end)?)
+    Ok(ends(alloc, &checked.program, &checked.params, n, end)?)
 }
 
 #[test]
@@ -159,8 +159,8 @@ fn addresses_of_no_cell_are_undefined(rt: HostRuntime) -> Result<(), Fail> {
 
 #[test]
 fn a_machine_that_has_ended_stays_so(rt: HostRuntime) -> Result<(), Fail> {
-    let job = job_of(rt.alloc(), b" ENDEX X\nX DESCR\n END\n")?;
-    let mut machine = start(rt.alloc(), &job.program, &job.params)?;
+    let checked = checked_of(rt.alloc(), b" ENDEX X\nX DESCR\n END\n")?;
+    let mut machine = start(rt.alloc(), &checked.program, &checked.params)?;
     let mut units = Units::new();
     assert_eq!(rt; machine.step(&mut units), Step::Stop(End::Exit(0)));
     assert_eq!(rt; machine.step(&mut units), Step::Stop(End::Exit(0)));

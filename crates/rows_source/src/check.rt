@@ -1,11 +1,10 @@
 // Sources and their programs.
 use crate::texts::WIDE_PARAMS;
-use layout_params::{Cell, Descr, STANDARD_PARAMS, read_params};
+use layout_params::{Cell, Descr, STANDARD_PARAMS};
 use sil_base::MemoryStore;
-use sil_cards::read_cards;
-use sil_check::{CheckStop, check, fits};
+use sil_check::{CheckStop, Checked, SourceNames, check, fits};
 use sil_macros::Macro;
-use sil_model::{Program, Statement, number, place};
+use sil_model::{Statement, number, place};
 use sil_operands::read_operands;
 use std::alloc::Global;
 
@@ -171,22 +170,16 @@ pub fn checked(
     source: &[u8],
     tables: &[u8],
     params: &[u8],
-) -> Result<Program, CheckStop> {
+) -> Result<Checked, CheckStop> {
     let mut store = MemoryStore::new(alloc, Vec::new(alloc));
     store.set("SRC", source)?;
-    if params.len() > 2_097_152 || tables.len() > 2_097_152 {
-        return Err(CheckStop::Memory);
-    }
-    let Ok(params) = read_params(alloc, params) else {
-        return Err(CheckStop::Memory);
-    };
-    let Ok(cards) = read_cards(alloc, &mut store, "SRC") else {
-        return Err(CheckStop::Memory);
-    };
-    check(alloc, cards, tables, &params)
+    store.set("TABLES", tables)?;
+    store.set("PARAMS", params)?;
+    let names = SourceNames::of(alloc, "SRC", "TABLES", "PARAMS")?;
+    check(alloc, &mut store, &names)
 }
 
-fn answered(answer: &Result<Program, CheckStop>) -> Outcome {
+fn answered(answer: &Result<Checked, CheckStop>) -> Outcome {
     match answer {
         Ok(_) => Outcome::Built,
         Err(CheckStop::NotBuilt) => Outcome::NotBuilt,
@@ -194,7 +187,7 @@ fn answered(answer: &Result<Program, CheckStop>) -> Outcome {
             [fault] => Outcome::Broken(fault.line.number, fault.code.letter, fault.code.rule),
             _ => Outcome::Other,
         },
-        Err(CheckStop::Memory) => Outcome::Other,
+        Err(_) => Outcome::Other,
     }
 }
 
@@ -234,28 +227,31 @@ fn operands_have_shapes(rt: HostRuntime) {
 fn statements_in_order(rt: HostRuntime) {
     let source =
         b"* three\n MOVD X,A+2*DESCR\nA ARRAY 3\n INCRA X,-9223372036854775807-1\nX DESCR 7,1,2\n ENDEX X-DESCR\n END\n";
-    let program = checked(rt.alloc(), source, b"", STANDARD_PARAMS).expect(&rt, "a program");
+    let checked = checked(rt.alloc(), source, b"", STANDARD_PARAMS).expect(&rt, "a program");
     let (x, last) = (Some(0x4000_0030), Some(0x4000_0020));
     let rows = [
         (2, Macro::Movd, x, last, None),
         (4, Macro::Incra, x, None, Some(i64::MIN)),
         (6, Macro::Endex, last, None, None),
     ];
-    for (statement, expected) in program.statements.items().iter().zip(rows.iter()) {
+    for (statement, expected) in checked.program.statements.items().iter().zip(rows.iter()) {
         assert_eq!(rt; row(statement), *expected);
     }
-    assert_eq!(rt; program.statements.items().len(), 3);
+    assert_eq!(rt; checked.program.statements.items().len(), 3);
     let zero = Cell::Descr(Descr { a: 0, f: 0, v: 0 });
     let seven = Cell::Descr(Descr { a: 7, f: 1, v: 2 });
-    assert_eq!(rt; program.cells.items(), [zero, zero, zero, seven].as_slice());
+    assert_eq!(rt;
+        checked.program.cells.items(),
+        [zero, zero, zero, seven].as_slice()
+    );
 }
 
 #[test]
 fn special_symbols(rt: HostRuntime) {
     let source =
         b"I EQU 4294967295\n ENDEX Z\nOVER ENDEX Z\nINTR10 LHERE\nZ DESCR\nSTYPE DESCR\nFRSGPT EQU -5\n END\n";
-    let program = checked(rt.alloc(), source, b"", STANDARD_PARAMS).expect(&rt, "a program");
-    let specials = program.specials;
+    let checked = checked(rt.alloc(), source, b"", STANDARD_PARAMS).expect(&rt, "a program");
+    let specials = checked.program.specials;
     assert_eq!(rt; (specials.over, specials.under), (Some(1), None));
     assert_eq!(rt;
         (specials.stype, specials.first),

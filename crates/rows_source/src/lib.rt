@@ -8,6 +8,8 @@ mod check;
 #[cfg(test)]
 mod data;
 #[cfg(test)]
+mod files;
+#[cfg(test)]
 mod statements;
 #[cfg(test)]
 mod symbols;

@@ -2,12 +2,12 @@
 use Rattle.std.specs.Prelude.{◌≡◌, Option, None}
 use Rattle.sil_shapes.specs.HeldSources.{IsResolution}
 use Rattle.sil_arguments.specs.declared.bound.BoundSource.{BoundSource}
-use Rattle.sil_arguments.specs.declared.stop.CheckStop.{CheckStop}
-use Rattle.sil_arguments.specs.declared.stop.CheckStop.TheVariants as stop
+use Rattle.sil_arguments.specs.declared.stop.ProgramStop.{ProgramStop}
+use Rattle.sil_arguments.specs.declared.stop.ProgramStop.TheVariants as stop
 use Rattle.sil_arguments.specs.MadeArguments.{Scope, scope_of}
 
 -- a stop where this is made, if anything is: want of memory, or nothing is made
-abbrev pub IsUnmade : {A : Type 0} → Option A → CheckStop → Type 0
+abbrev pub IsUnmade : {A : Type 0} → Option A → ProgramStop → Type 0
 IsUnmade made (stop.Faults faults) = ⊥
 IsUnmade made stop.NotBuilt = made ≡ None
 IsUnmade made stop.Memory = Unit {0}

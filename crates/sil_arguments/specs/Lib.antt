@@ -1,3 +1,3 @@
 pub mod MadeArguments
 pub mod HeldScopes
-pub mod CheckStops
+pub mod ProgramStops

@@ -10,7 +10,7 @@ ghost use Rattle.sil_arguments.specs.HeldScopes.{IsBound, IsUnmade, scope_in};
 
 use crate::bound::BoundSource;
 use crate::lists::{locations_in, one_location, one_place, places_in};
-use crate::stop::CheckStop;
+use crate::stop::ProgramStop;
 use data_asm::first_text;
 use sil_base::{Items, Record};
 use sil_macros::{Kind, Place};
@@ -29,17 +29,17 @@ fn null_arg(alloc: Global, kind: Kind) -> Arg
     }
 }
 
-fn there<T>(found: Option<T>) -> Result<T, CheckStop>
+fn there<T>(found: Option<T>) -> Result<T, ProgramStop>
     ensures { MatchResult result (λ x. found ≡ Some x) (IsUnmade found) }
 {
     match found {
         Some(x) => Ok(x),
-        None => Err(CheckStop::NotBuilt),
+        None => Err(ProgramStop::NotBuilt),
     }
 }
 
 /// The value of an expression.
-fn value_of(bound: &BoundSource<'_>, expr: &Expr) -> Result<i64, CheckStop>
+fn value_of(bound: &BoundSource<'_>, expr: &Expr) -> Result<i64, ProgramStop>
     requires { IsBound bound.now }
     ensures { let made = value_of bound.now.source.params.now bound.now.source.statements.now expr.now
         in MatchResult result (λ z. made ≡ Some z) (IsUnmade made) }
@@ -48,7 +48,7 @@ fn value_of(bound: &BoundSource<'_>, expr: &Expr) -> Result<i64, CheckStop>
 }
 
 /// The statement that an expression leads to.
-fn location_of(bound: &BoundSource<'_>, expr: &Expr) -> Result<u32, CheckStop>
+fn location_of(bound: &BoundSource<'_>, expr: &Expr) -> Result<u32, ProgramStop>
     requires { IsBound bound.now }
     ensures { let made = location_of (measure_in bound.now.source) expr.now
         in MatchResult result (λ k. made ≡ Some k) (IsUnmade made) }
@@ -57,7 +57,7 @@ fn location_of(bound: &BoundSource<'_>, expr: &Expr) -> Result<u32, CheckStop>
 }
 
 /// The flags that an expression is.
-fn flags_of(bound: &BoundSource<'_>, expr: &Expr) -> Result<u32, CheckStop>
+fn flags_of(bound: &BoundSource<'_>, expr: &Expr) -> Result<u32, ProgramStop>
     requires { IsBound bound.now }
     ensures { let made = flags_of (measure_in bound.now.source) expr.now
         in MatchResult result (λ f. made ≡ Some f) (IsUnmade made) }
@@ -66,13 +66,13 @@ fn flags_of(bound: &BoundSource<'_>, expr: &Expr) -> Result<u32, CheckStop>
 }
 
 /// The number of the table that an expression names.
-fn table_of(bound: &BoundSource<'_>, expr: &Expr) -> Result<u16, CheckStop>
+fn table_of(bound: &BoundSource<'_>, expr: &Expr) -> Result<u16, ProgramStop>
     ensures { let made = option_and_then (table_named (names_in bound.now.tables.now)) (named_alone expr.now)
         in MatchResult result (λ t. made ≡ Some t) (IsUnmade made) }
 {
     match named_alone(expr.terms()) {
         Some(name) => there(bound.tables.find(name)),
-        None => Err(CheckStop::NotBuilt),
+        None => Err(ProgramStop::NotBuilt),
     }
 }
 
@@ -94,33 +94,33 @@ fn action_named(name: &[u8]) -> Option<Action>
 }
 
 /// The action that an expression is the key of.
-fn action_of(expr: &Expr) -> Result<Action, CheckStop>
+fn action_of(expr: &Expr) -> Result<Action, ProgramStop>
     ensures { let made = option_and_then action_named (named_alone expr.now)
         in MatchResult result (λ a. made ≡ Some a) (IsUnmade made) }
 {
     match named_alone(expr.terms()) {
         Some(name) => there(action_named(name)),
-        None => Err(CheckStop::NotBuilt),
+        None => Err(ProgramStop::NotBuilt),
     }
 }
 
 /// The text of the FORMAT that an expression names.
-fn text_of(alloc: Global, bound: &BoundSource<'_>, expr: &Expr) -> Result<Record, CheckStop>
+fn text_of(alloc: Global, bound: &BoundSource<'_>, expr: &Expr) -> Result<Record, ProgramStop>
     requires { IsBound bound.now }
     ensures { let made = option_and_then (text_at bound.now.source.statements.now) (format_at (measure_in bound.now.source) expr.now)
         in MatchResult result (λ text. made ≡ Some text) (IsUnmade made) }
 {
     let Some(place) = bound.source.format_at(expr) else {
-        return Err(CheckStop::NotBuilt);
+        return Err(ProgramStop::NotBuilt);
     };
     let Some(statement) = bound.source.statements.get(place as usize) else {
-        return Err(CheckStop::NotBuilt);
+        return Err(ProgramStop::NotBuilt);
     };
     Ok(Record::of(alloc, first_text(statement.operands.items()))?)
 }
 
 /// An expression in a place of this kind.
-fn arg_by(alloc: Global, bound: &BoundSource<'_>, kind: Kind, expr: &Expr) -> Result<Arg, CheckStop>
+fn arg_by(alloc: Global, bound: &BoundSource<'_>, kind: Kind, expr: &Expr) -> Result<Arg, ProgramStop>
     requires { IsBound bound.now }
     ensures { let made = arg_by (scope_in bound.now) kind expr.now
         in MatchResult result (λ a. made ≡ Some a) (IsUnmade made) }
@@ -136,7 +136,7 @@ fn arg_by(alloc: Global, bound: &BoundSource<'_>, kind: Kind, expr: &Expr) -> Re
         Kind::Descrs | Kind::Specs => Ok(one_place(alloc, value_of(bound, expr)?)?),
         Kind::Gotos => Ok(one_location(alloc, location_of(bound, expr)?)?),
         Kind::Free => Ok(Arg::Absent),
-        Kind::Text => Err(CheckStop::NotBuilt),
+        Kind::Text => Err(ProgramStop::NotBuilt),
     }
 }
 
@@ -146,7 +146,7 @@ fn list_arg(
     bound: &BoundSource<'_>,
     kind: Kind,
     items: &[Option<Expr>],
-) -> Result<Arg, CheckStop>
+) -> Result<Arg, ProgramStop>
     requires { IsBound bound.now }
     ensures { let made = list_arg (scope_in bound.now) kind items.now
         in MatchResult result (λ a. made ≡ Some a) (IsUnmade made) }
@@ -160,7 +160,7 @@ fn list_arg(
             let locations = locations_in(alloc, &bound.source, items)?;
             Ok(Arg::Gotos(Items::of(locations)))
         }
-        _ => Err(CheckStop::NotBuilt),
+        _ => Err(ProgramStop::NotBuilt),
     }
 }
 
@@ -170,7 +170,7 @@ fn arg_of(
     bound: &BoundSource<'_>,
     place: Place,
     operand: &Operand,
-) -> Result<Arg, CheckStop>
+) -> Result<Arg, ProgramStop>
     requires { IsBound bound.now }
     ensures { let made = arg_of (scope_in bound.now) place operand.now
         in MatchResult result (λ a. made ≡ Some a) (IsUnmade made) }
@@ -179,7 +179,7 @@ fn arg_of(
         Operand::Null if place.optional => Ok(null_arg(alloc, place.kind)),
         Operand::Expr(expr) => arg_by(alloc, bound, place.kind, expr),
         Operand::List(items) => list_arg(alloc, bound, place.kind, items.items()),
-        _ => Err(CheckStop::NotBuilt),
+        _ => Err(ProgramStop::NotBuilt),
     }
 }
 
@@ -189,7 +189,7 @@ fn first_arg(
     bound: &BoundSource<'_>,
     place: Place,
     operands: &[Operand],
-) -> Result<Arg, CheckStop>
+) -> Result<Arg, ProgramStop>
     requires { IsBound bound.now }
     ensures { let made = arg_of (scope_in bound.now) place (first_of operands.now)
         in MatchResult result (λ a. made ≡ Some a) (IsUnmade made) }
@@ -216,7 +216,7 @@ pub fn args_of(
     bound: &BoundSource<'_>,
     places: &[Place],
     operands: &[Operand],
-) -> Result<Vec<Arg>, CheckStop>
+) -> Result<Vec<Arg>, ProgramStop>
     requires { IsBound bound.now }
     ensures { let made = args_of (scope_in bound.now) places.now operands.now
         in MatchResult result (λ v. made ≡ Some v.items) (IsUnmade made) }

@@ -8,4 +8,4 @@ mod stop;
 
 pub use arguments::{args_of, rest_of};
 pub use bound::BoundSource;
-pub use stop::CheckStop;
+pub use stop::ProgramStop;

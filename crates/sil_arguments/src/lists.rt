@@ -4,7 +4,7 @@ ghost use Rattle.sil_shapes.specs.HeldSources.{IsResolution, measure_in};
 ghost use Rattle.sil_arguments.specs.MadeArguments.{location_in, locations_in, place_in, places_in};
 ghost use Rattle.sil_arguments.specs.HeldScopes.{IsUnmade};
 
-use crate::stop::CheckStop;
+use crate::stop::ProgramStop;
 use sil_base::Items;
 use sil_model::Arg;
 use sil_operands::Expr;
@@ -45,7 +45,7 @@ pub(crate) fn places_in(
     alloc: Global,
     source: &Resolution<'_>,
     items: &[Option<Expr>],
-) -> Result<Vec<i64>, CheckStop>
+) -> Result<Vec<i64>, ProgramStop>
     requires { IsResolution source.now }
     ensures { let made = places_in (measure_in source.now) items.now
         in MatchResult result (λ v. made ≡ Some v.items) (IsUnmade made) }
@@ -53,7 +53,7 @@ pub(crate) fn places_in(
     let mut places = Vec::new(alloc);
     for item in items {
         let Some(at) = place_in(source, item) else {
-            return Err(CheckStop::NotBuilt);
+            return Err(ProgramStop::NotBuilt);
         };
         places.push(at)?;
     }
@@ -76,7 +76,7 @@ pub(crate) fn locations_in(
     alloc: Global,
     source: &Resolution<'_>,
     items: &[Option<Expr>],
-) -> Result<Vec<Option<u32>>, CheckStop>
+) -> Result<Vec<Option<u32>>, ProgramStop>
     requires { IsResolution source.now }
     ensures { let made = locations_in (measure_in source.now) items.now
         in MatchResult result (λ v. made ≡ Some v.items) (IsUnmade made) }
@@ -84,7 +84,7 @@ pub(crate) fn locations_in(
     let mut locations = Vec::new(alloc);
     for item in items {
         let Some(location) = location_in(source, item) else {
-            return Err(CheckStop::NotBuilt);
+            return Err(ProgramStop::NotBuilt);
         };
         locations.push(location)?;
     }

@@ -6,7 +6,7 @@ use std::alloc::{AllocError, AllocFailed};
 
 /// Why no program was made.
 #[derive(Debug, Drop)]
-pub enum CheckStop {
+pub enum ProgramStop {
     /// The lines that break a rule, in order.
     Faults(Items<Fault>),
     /// The source has no program so far.
@@ -15,35 +15,35 @@ pub enum CheckStop {
     Memory,
 }
 
-impl From<AllocError> for CheckStop {
-    ghost use Rattle.sil_arguments.specs.declared.stop.CheckStop.TheVariants.{Memory};
+impl From<AllocError> for ProgramStop {
+    ghost use Rattle.sil_arguments.specs.declared.stop.ProgramStop.TheVariants.{Memory};
 
     ghost from_gives = { λ _ e. e ≡ Memory };
 
-    fn from(_error: AllocError) -> CheckStop {
-        CheckStop::Memory
+    fn from(_error: AllocError) -> ProgramStop {
+        ProgramStop::Memory
     }
 }
 
-impl<T: Drop> From<AllocFailed<T>> for CheckStop {
-    ghost use Rattle.sil_arguments.specs.declared.stop.CheckStop.TheVariants.{Memory};
+impl<T: Drop> From<AllocFailed<T>> for ProgramStop {
+    ghost use Rattle.sil_arguments.specs.declared.stop.ProgramStop.TheVariants.{Memory};
 
     ghost from_gives = { λ _ e. e ≡ Memory };
 
-    fn from(_error: AllocFailed<T>) -> CheckStop {
-        CheckStop::Memory
+    fn from(_error: AllocFailed<T>) -> ProgramStop {
+        ProgramStop::Memory
     }
 }
 
-impl From<FaultStop> for CheckStop {
-    ghost use Rattle.sil_arguments.specs.CheckStops.{stop_below};
+impl From<FaultStop> for ProgramStop {
+    ghost use Rattle.sil_arguments.specs.ProgramStops.{stop_below};
 
     ghost from_gives = { λ stop e. e ≡ stop_below stop };
 
-    fn from(stop: FaultStop) -> CheckStop {
+    fn from(stop: FaultStop) -> ProgramStop {
         match stop {
-            FaultStop::Faults(faults) => CheckStop::Faults(faults),
-            FaultStop::Memory => CheckStop::Memory,
+            FaultStop::Faults(faults) => ProgramStop::Faults(faults),
+            FaultStop::Memory => ProgramStop::Memory,
         }
     }
 }

@@ -1,8 +1,5 @@
-pub mod Statements
-pub mod Built
-pub mod TableFaults
-pub mod Specials
-pub mod Programs
-pub mod ProgramLaws
-pub mod Verdicts
-pub mod HeldPrograms
+pub mod SourceNames
+pub mod CheckedPrograms
+pub mod CheckStops
+pub mod Inputs
+pub mod HeldInputs

@@ -1,16 +1,14 @@
-// From the cards of a source to its program.
+// From the files of a source to its program.
 #![tactic(auto)]
 
-mod built;
-mod laws;
-mod program;
-mod source;
-mod specials;
-mod statements;
-mod tables;
+mod checked;
+mod checking;
+mod inputs;
+mod names;
+mod stop;
 
-pub use built::{BUILT, is_built};
-pub use laws::law_of_programs;
-pub use sil_arguments::CheckStop;
+pub use checked::Checked;
+pub use checking::check;
+pub use names::SourceNames;
 pub use sil_shapes::fits;
-pub use source::check;
+pub use stop::CheckStop;

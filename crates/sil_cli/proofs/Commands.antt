@@ -1,5 +1,5 @@
 -- What commands come to.
-use Rattle.std.proofs.Common.{◌≡◌, ℕ, ◌≤◌, ◌^◌, List, Option, None, Some, option_map, IfSome, IfOk, IfErr, OnErr, MatchResult, IsOkAnd, true, false, refl, sym, ap, ◌∙◌, Ok, Err}
+use Rattle.std.proofs.Common.{◌≡◌, ℕ, ◌≤◌, ◌^◌, List, Option, None, Some, option_map, IfSome, IfOk, IfErr, OnErr, IsOkAnd, true, false, refl, sym, ap, ◌∙◌, Ok, Err}
 use Rattle.std.specs.Prelude.{is_some}
 use Rattle.std.specs.declared.result.Result.{Result}
 use Rattle.std.specs.FinMap.{insert}
@@ -22,34 +22,13 @@ use Rattle.sil_cli.specs.declared.ending.Stop.{Stop}
 use Rattle.sil_cli.specs.declared.ending.Stop.TheVariants as stop
 use Rattle.sil_cli.specs.Answer.{Performs, StopsSo}
 use Rattle.sil_cli.specs.Endings.{ending_of, is_free, is_free_end, IsProgramEnd}
-use Rattle.sil_cli.specs.CommandFiles.{StopCause, IsCheckStop, SavesOr}
-use Rattle.sil_cli.specs.Inputs.{Job, job_at}
+use Rattle.sil_check.specs.CheckedPrograms.{Job}
+use Rattle.sil_cli.specs.CommandFiles.{SavesOr, job_at}
 use Rattle.sil_cli.specs.Report.{Comes, Keeps, Causes, EndingCause, has_run}
 use Rattle.sil_cli.specs.ImageRuns.{RunsBytes}
 use Rattle.sil_cli.specs.CommandWords.{Order}
 use Rattle.sil_cli.proofs.RunEnds.{IsPlain, HasSmallExit, has-end, run-plain, emulation-small, program-end}
 use Rattle.sil_cli.proofs.Maps.{remove-insert}
-
--- what is built of a job that is there is built of some job
-pub some-job : {T : Type 0} (r : Result T Stop) (o : Result Job Stop) (P : T → Job → Type 0) (Q : Stop → Type 0) → MatchResult r (λ x. IsOkAnd o (P x)) Q → IfOk r (λ x. (job : Job) × P x job)
-some-job (Ok x) (Ok job) P Q h = (job, h)
-some-job (Ok x) (Err e) P Q h = absurd h
-some-job (Err e) o P Q h = tt
-
-check-cause : (e : Stop) (b a : ℕ) → IsCheckStop e → StopCause e b a
-check-cause (stop.Missing name) b a h = absurd h
-check-cause (stop.TooLong name) b a h = absurd h
-check-cause (stop.StoreFault name) b a h = absurd h
-check-cause (stop.Parameters fault) b a h = tt
-check-cause (stop.Faults faults) b a h = tt
-check-cause stop.NotBuilt b a h = tt
-check-cause (stop.ImageRefused part) b a h = absurd h
-check-cause stop.Memory b a h = tt
-
--- a stop after the loads has its cause
-pub build-cause : {T : Type 0} (r : Result T Stop) (b a : ℕ) → IfErr r IsCheckStop → IfErr r (λ e. StopCause e b a)
-build-cause (Ok x) b a h = tt
-build-cause (Err e) b a h = check-cause e b a h
 
 -- ---- saved
 

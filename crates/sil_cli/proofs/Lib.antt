@@ -6,4 +6,3 @@ pub mod Codes
 pub mod Statuses
 pub mod Whole
 pub mod Emulated
-mod BuiltNames

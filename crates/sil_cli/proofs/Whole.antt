@@ -23,9 +23,10 @@ use Rattle.sil_cli.specs.Answer.{Answers, Finishes}
 use Rattle.sil_cli.specs.Endings.{status_of, is_free_end, stop_by}
 use Rattle.sil_cli.specs.Headline.{HasJob, FinishesTapes, Reports, Does, Headline}
 use Rattle.sil_base.specs.declared.limits.TheConstants.{MAX_FILE_BYTES}
-use Rattle.sil_cli.specs.Inputs.{Cards, on_result, and_then, source_by, inputs_of, unless_faulty, parameters_by, job_in, job_at}
+use Rattle.sil_check.specs.CheckStops.{stop_by_load, stop_by_program}
+use Rattle.sil_check.specs.Inputs.{Cards, loaded, on_result, and_then, source_by, inputs_of, unless_faulty, parameters_by, job_in, checked_of}
 use Rattle.sil_base.specs.Loads.{of_file, stopping}
-use Rattle.sil_cli.specs.CommandFiles.{loaded, stop_by_load}
+use Rattle.sil_cli.specs.CommandFiles.{names_of, job_at}
 use Rattle.sil_cli.specs.Noted.{Noted, settled}
 use Rattle.sil_cli.specs.Report.{Comes, EndingCause, ran, has_run, text_of, finish_status}
 use Rattle.sil_cli.specs.CommandWords.{Order}
@@ -44,7 +45,7 @@ loads m name bytes is short =
 then-ok : {T U E : Type 0} (r : Result T E) (x : T) (next : T → Result U E) → r ≡ Ok x → and_then r next ≡ next x
 then-ok r x next e = rw e refl
 
-inputs-of-files : (order : Order) (m : Files) (program : Program) (parameters : Parameters) → (h : HasJob order m program parameters) → inputs_of order m ≡ Ok (record { params = h.params; tables = h.tables; source = Cards h.cards })
+inputs-of-files : (order : Order) (m : Files) (program : Program) (parameters : Parameters) → (h : HasJob order m program parameters) → inputs_of (names_of order) m ≡ Ok (record { params = h.params; tables = h.tables; source = Cards h.cards })
 inputs-of-files order m program parameters h =
     then-ok (loaded m order.params MAX_FILE_BYTES) h.params _ (loads m order.params h.params h.params_file h.params_size)
     ∙ then-ok (loaded m order.tables MAX_FILE_BYTES) h.tables _ (loads m order.tables h.tables h.tables_file h.tables_size)
@@ -54,12 +55,15 @@ job-of-inputs : (order : Order) (m : Files) (program : Program) (parameters : Pa
 unfolding job_in
 job-of-inputs order m program parameters h =
     then-ok (parameters_by h.params) (values_of h.params) _ (ap (λ o. unless_faulty o (values_of h.params)) h.faultless)
-    ∙ ap (λ r. on_result r (λ program. Ok (record { program = program; parameters = values_of h.params })) (λ e. Err (stop_by e))) h.checked
+    ∙ ap (λ r. on_result r (λ program. Ok (record { program = program; parameters = values_of h.params })) (λ e. Err (stop_by_program e))) h.checked
     ∙ ap (λ p. Ok (record { program = program; parameters = p })) h.values
 
+checked-files : (order : Order) (m : Files) (program : Program) (parameters : Parameters) → HasJob order m program parameters → checked_of (names_of order) m ≡ Ok (record { program = program; parameters = parameters })
+checked-files order m program parameters h =
+    then-ok (inputs_of (names_of order) m) _ _ (inputs-of-files order m program parameters h) ∙ job-of-inputs order m program parameters h
+
 pub job-of-files : (order : Order) (m : Files) (program : Program) (parameters : Parameters) → HasJob order m program parameters → job_at order m ≡ Ok (record { program = program; parameters = parameters })
-job-of-files order m program parameters h =
-    then-ok (inputs_of order m) _ _ (inputs-of-files order m program parameters h) ∙ job-of-inputs order m program parameters h
+job-of-files order m program parameters h = ap (stopping stop_by) (checked-files order m program parameters h)
 
 -- ---- the run
 

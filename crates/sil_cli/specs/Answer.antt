@@ -12,7 +12,7 @@ use Rattle.sil_cli.specs.Noted.{Noted, settled}
 use Rattle.sil_cli.specs.Report.{Comes, Leaves, Causes, has_run, text_of, finish_status}
 use Rattle.sil_cli.specs.declared.ending.Stop.{Stop}
 use Rattle.sil_cli.specs.declared.ending.Stop.TheVariants as stops
-use Rattle.sil_cli.specs.Inputs.{job_at}
+use Rattle.sil_cli.specs.CommandFiles.{job_at}
 use Rattle.sil_cli.specs.CommandWords.{Order}
 use Rattle.sil_base.specs.declared.line.Fault.{Fault}
 

@@ -6,23 +6,22 @@ use Rattle.std.specs.FinMap.{insert}
 use Rattle.sil_base.specs.Causes.{Rose}
 use Rattle.sil_base.specs.Files.{Files}
 use Rattle.sil_base.specs.Stores.{ChangesFile}
-use Rattle.sil_base.specs.Loads as loads
 use Rattle.sil_base.specs.Loads.{stopping}
-use Rattle.sil_base.specs.declared.loading.LoadStop.{LoadStop}
-use Rattle.sil_base.specs.declared.loading.LoadStop.TheVariants as load
+use Rattle.sil_check.specs.SourceNames.{Names}
+use Rattle.sil_check.specs.CheckedPrograms.{Job}
+use Rattle.sil_check.specs.Inputs.{checked_of}
 use Rattle.sil_cli.specs.declared.ending.Stop.{Stop}
 use Rattle.sil_cli.specs.declared.ending.Stop.TheVariants as stop
+use Rattle.sil_cli.specs.CommandWords.{Order}
+use Rattle.sil_cli.specs.Endings.{stop_by}
 
--- the stop where a file can't be loaded
-abbrev pub stop_by_load : LoadStop → Stop
-stop_by_load (load.Missing name) = stop.Missing name
-stop_by_load (load.TooLong name) = stop.TooLong name
-stop_by_load (load.Failed name) = stop.StoreFault name
-stop_by_load load.Memory = stop.Memory
+-- the names of the files that a program is made from
+abbrev pub names_of : Order → Names
+names_of order = record { source = order.source; tables = order.tables; params = order.params }
 
--- what is loaded of these files, or the stop that names the file
-abbrev pub loaded : Files → List ℕ → ℕ → Result (List ℕ) Stop
-loaded files name limit = stopping stop_by_load (loads.loaded files name limit)
+-- the program and the parameters that an order's files give, or the stop
+abbrev pub job_at : Order → Files → Result Job Stop
+job_at order files = stopping stop_by (checked_of (names_of order) files)
 
 -- a stop at a file names the one that was asked for
 abbrev pub NamesFile : List ℕ → Stop → Type 0
@@ -41,17 +40,6 @@ StopCause (stop.Faults faults) before now = Unit {0}
 StopCause stop.NotBuilt before now = Unit {0}
 StopCause (stop.ImageRefused part) before now = ⊥
 StopCause stop.Memory before now = Unit {0}
-
--- a stop that comes after the loads
-abbrev pub IsCheckStop : Stop → Type 0
-IsCheckStop (stop.StoreFault name) = ⊥
-IsCheckStop (stop.Missing name) = ⊥
-IsCheckStop (stop.TooLong name) = ⊥
-IsCheckStop (stop.Parameters fault) = Unit {0}
-IsCheckStop (stop.Faults faults) = Unit {0}
-IsCheckStop stop.NotBuilt = Unit {0}
-IsCheckStop (stop.ImageRefused part) = ⊥
-IsCheckStop stop.Memory = Unit {0}
 
 -- what a save leaves of a store that tells its files
 abbrev pub SavesOr : {T E : Type 0} → Result T E → List ℕ → List ℕ → Files → Option Files → Type 0

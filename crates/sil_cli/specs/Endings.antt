@@ -4,10 +4,8 @@ use Rattle.std.specs.List.{flat_map}
 use Rattle.sil_base.specs.declared.line.Fault.{Fault}
 use Rattle.std.specs.declared.result.Result.{Result}
 use Rattle.std.specs.declared.result.Result.TheVariants.{Ok, Err}
-use Rattle.sil_arguments.specs.declared.stop.CheckStop.{CheckStop}
-use Rattle.sil_arguments.specs.declared.stop.CheckStop.TheVariants as check
-use Rattle.layout_params.specs.declared.stop.ParamStop.{ParamStop}
-use Rattle.layout_params.specs.declared.stop.ParamStop.TheVariants as params
+use Rattle.sil_check.specs.declared.stop.CheckStop.{CheckStop}
+use Rattle.sil_check.specs.declared.stop.CheckStop.TheVariants as check
 use Rattle.image_file.specs.declared.stop.ImageStop.{ImageStop}
 use Rattle.image_file.specs.declared.stop.ImageStop.TheVariants as image
 use Rattle.rv_emulate.specs.declared.end.CpuEnd.{CpuEnd}
@@ -104,16 +102,15 @@ abbrev pub ending_of : Result CpuEnd Stop → Ending
 ending_of (Ok end) = ending.Ran end
 ending_of (Err stop) = ending.Stopped stop
 
--- the stop where cards have no program
+-- the stop where files give no program
 abbrev pub stop_by : CheckStop → Stop
+stop_by (check.Missing name) = stop.Missing name
+stop_by (check.TooLong name) = stop.TooLong name
+stop_by (check.Failed name) = stop.StoreFault name
+stop_by (check.Params fault) = stop.Parameters fault
 stop_by (check.Faults faults) = stop.Faults faults
 stop_by check.NotBuilt = stop.NotBuilt
 stop_by check.Memory = stop.Memory
-
--- the stop where parameters aren't legal
-abbrev pub stop_by_params : ParamStop → Stop
-stop_by_params (params.Fault fault) = stop.Parameters fault
-stop_by_params params.Memory = stop.Memory
 
 -- the stop where bytes are no image, or memory ran out as they were read
 abbrev pub refused_by : ImageStop → Stop

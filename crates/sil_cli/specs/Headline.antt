@@ -15,7 +15,7 @@ use Rattle.sil_model.specs.declared.end.End.{End}
 use Rattle.sil_model.specs.declared.program.Program.{Program}
 use Rattle.sil_model.specs.Machine.{machine}
 use Rattle.rv_operations.specs.Does.{as_end}
-use Rattle.sil_check.specs.Verdicts.{verdict}
+use Rattle.sil_program.specs.Verdicts.{verdict}
 use Rattle.sil_install.specs.Installed.{IsInstalled}
 use Rattle.sil_cli.specs.declared.ending.Ending.TheVariants as ending
 use Rattle.sil_cli.specs.Endings.{run_status}

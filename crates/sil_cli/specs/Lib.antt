@@ -3,8 +3,6 @@ pub mod Noted
 pub mod CommandFiles
 pub mod CommandWords
 pub mod Orders
-pub mod Inputs
-pub mod HeldInputs
 pub mod ImageRuns
 pub mod Report
 pub mod Answer

@@ -14,8 +14,8 @@ use Rattle.sil_cli.specs.declared.ending.Stop.{Stop}
 use Rattle.sil_cli.specs.declared.ending.Ending.{Ending}
 use Rattle.sil_cli.specs.declared.ending.Ending.TheVariants as ending
 use Rattle.sil_cli.specs.Endings.{line_of, IsProgramEnd}
-use Rattle.sil_cli.specs.CommandFiles.{StopCause}
-use Rattle.sil_cli.specs.Inputs.{on_result, job_at}
+use Rattle.sil_check.specs.Inputs.{on_result}
+use Rattle.sil_cli.specs.CommandFiles.{StopCause, job_at}
 use Rattle.sil_cli.specs.Noted.{finish_lines}
 use Rattle.sil_cli.specs.CommandWords.{Order}
 

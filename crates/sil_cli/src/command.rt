@@ -4,19 +4,19 @@ ghost use Rattle.std.specs.FinMap.{insert};
 ghost use Rattle.unit_io.specs.Units.{tapes_of};
 ghost use Rattle.sil_install.specs.Installed.{IsInstalled};
 ghost use Rattle.sil_cli.specs.Endings.{is_free, is_free_end, ending_of};
-ghost use Rattle.sil_cli.specs.CommandFiles.{StopCause};
-ghost use Rattle.sil_cli.specs.Inputs.{Job, job_at};
+ghost use Rattle.sil_cli.specs.CommandFiles.{StopCause, job_at};
+ghost use Rattle.sil_check.specs.CheckedPrograms.{Job};
 ghost use Rattle.sil_cli.specs.Orders.{order_by};
 ghost use Rattle.sil_cli.specs.Report.{Comes, Keeps, Causes};
 
-use crate::build::build;
 use crate::ending::Stop;
 use crate::files::save;
-use crate::inputs::load_inputs;
 use crate::order::Order;
 use crate::running::run_image;
 use rv_emulate::CpuEnd;
 use sil_base::Store;
+use sil_check::{SourceNames, check};
+use sil_install::install;
 use std::alloc::Global;
 use unit_io::UnitSet;
 
@@ -32,8 +32,9 @@ fn prepare<S: Store>(alloc: Global, order: &Order<'_>, store: &mut S) -> Result<
     ensures count { S.faults store.old ≤ S.faults store.new }
     ensures cause { IfErr result (λ e. StopCause e (S.faults store.old) (S.faults store.new)) }
 {
-    let inputs = load_inputs(alloc, order, store)?;
-    build(alloc, inputs)
+    let names = SourceNames::of(alloc, order.source, order.tables, order.params)?;
+    let checked = check(alloc, store, &names)?;
+    Ok(install(alloc, &checked)?)
 }
 
 /// Installs the program that an order's files give, and saves its image.

@@ -3,9 +3,8 @@ ghost use Rattle.std.specs.Prelude.{◌≡◌};
 ghost use Rattle.sil_cli.specs.Endings.{status_of, stop_status, run_status};
 
 use image_file::ImageStop;
-use layout_params::ParamStop;
 use rv_emulate::CpuEnd;
-use sil_base::{Fault, Items, LoadStop, Record};
+use sil_base::{Fault, Items, Record};
 use sil_check::CheckStop;
 use std::alloc::AllocError;
 
@@ -95,22 +94,6 @@ impl From<AllocError> for Stop {
     }
 }
 
-impl From<LoadStop> for Stop {
-    ghost use Rattle.std.specs.Prelude.{◌≡◌};
-    ghost use Rattle.sil_cli.specs.CommandFiles.{stop_by_load};
-
-    ghost from_gives = { λ c e. e ≡ stop_by_load c };
-
-    fn from(stop: LoadStop) -> Stop {
-        match stop {
-            LoadStop::Missing(name) => Stop::Missing(name),
-            LoadStop::TooLong(name) => Stop::TooLong(name),
-            LoadStop::Failed(name) => Stop::StoreFault(name),
-            LoadStop::Memory => Stop::Memory,
-        }
-    }
-}
-
 impl From<CheckStop> for Stop {
     ghost use Rattle.std.specs.Prelude.{◌≡◌};
     ghost use Rattle.sil_cli.specs.Endings.{stop_by};
@@ -119,23 +102,13 @@ impl From<CheckStop> for Stop {
 
     fn from(stop: CheckStop) -> Stop {
         match stop {
+            CheckStop::Missing(name) => Stop::Missing(name),
+            CheckStop::TooLong(name) => Stop::TooLong(name),
+            CheckStop::Failed(name) => Stop::StoreFault(name),
+            CheckStop::Params(fault) => Stop::Parameters(fault),
             CheckStop::Faults(faults) => Stop::Faults(faults),
             CheckStop::NotBuilt => Stop::NotBuilt,
             CheckStop::Memory => Stop::Memory,
-        }
-    }
-}
-
-impl From<ParamStop> for Stop {
-    ghost use Rattle.std.specs.Prelude.{◌≡◌};
-    ghost use Rattle.sil_cli.specs.Endings.{stop_by_params};
-
-    ghost from_gives = { λ c e. e ≡ stop_by_params c };
-
-    fn from(stop: ParamStop) -> Stop {
-        match stop {
-            ParamStop::Fault(fault) => Stop::Parameters(fault),
-            ParamStop::Memory => Stop::Memory,
         }
     }
 }

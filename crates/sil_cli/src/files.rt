@@ -1,25 +1,11 @@
-// Loads and saves that name the file where they end a command.
-ghost use Rattle.std.specs.Prelude.{◌≡◌, ◌≤◌, false, true, IfSome, IfOk, IfErr, MatchResult, Ok, Err, length};
+// Saves that name the file where they end a command.
+ghost use Rattle.std.specs.Prelude.{◌≡◌, ◌≤◌, true, IfSome, IfErr};
 ghost use Rattle.sil_cli.specs.Endings.{is_free};
-ghost use Rattle.sil_cli.specs.CommandFiles.{loaded, NamesFile, StopCause, SavesOr};
+ghost use Rattle.sil_cli.specs.CommandFiles.{NamesFile, StopCause, SavesOr};
 
 use crate::ending::Stop;
-use sil_base::{Record, Save, Store, load_file};
+use sil_base::{Record, Save, Store};
 use std::alloc::Global;
-
-/// Loads a file, or says how that stops the command.
-pub fn load<S: Store>(alloc: Global, store: &mut S, name: &str, limit: u64) -> Result<Vec<u8>, Stop>
-    ensures kept { S.files store.new ≡ S.files store.old }
-    ensures within { IfOk result (λ bytes. length bytes.items ≤ limit) }
-    ensures named { IfErr result (NamesFile name.now) }
-    ensures loaded { IfSome (S.files store.old) (λ files. MatchResult result
-        (λ bytes. loaded files name.now limit ≡ Ok bytes.items)
-        (λ e. is_free e ≡ false → loaded files name.now limit ≡ Err e)) }
-    ensures count { S.faults store.old ≤ S.faults store.new }
-    ensures cause { IfErr result (λ e. StopCause e (S.faults store.old) (S.faults store.new)) }
-{
-    Ok(load_file(alloc, store, name, limit)?)
-}
 
 /// Saves a file, or says how that stops the command.
 pub fn save<S: Store>(alloc: Global, store: &mut S, name: &str, bytes: &[u8]) -> Result<(), Stop>

@@ -12,3 +12,4 @@ mod Join
 mod Expanding
 mod TableBytes
 mod Whole
+mod BuiltNames

@@ -6,12 +6,14 @@ ghost use Rattle.macro_expand.specs.Expanded.{AreExpanded};
 ghost use Rattle.sil_model.specs.WellFormed.{IsWellFormed};
 ghost use Rattle.sil_install.specs.Installed.{Behaves, IsInstalled};
 
+use crate::law::law_of_built_programs;
 use crate::parts::{entries, kinds, pack_cells};
 use crate::tables::table_bytes;
 use crate::words::program_words;
 use image_file::{Image, write_image};
 use layout_params::Params;
 use rv_emit::Emitted;
+use sil_check::Checked;
 use sil_model::Program;
 use std::alloc::{AllocError, Global};
 
@@ -49,12 +51,11 @@ fn image_of(alloc: Global, program: &Program, params: &Params) -> Result<Image, 
     }
 }
 
-/// The bytes of an image that is installed for a program. The only error is want of memory.
-pub fn install(alloc: Global, program: &Program, params: &Params) -> Result<Vec<u8>, AllocError>
-    requires well_formed { IsWellFormed program.now params.now.settings }
-    requires expanded { AreExpanded program.now }
-    ensures { IfOk result (λ bytes. IsInstalled bytes.items program.now params.now) }
+/// The bytes of an image that is installed for a checked program. The only error is want of memory.
+pub fn install(alloc: Global, checked: &Checked) -> Result<Vec<u8>, AllocError>
+    ensures { IfOk result (λ bytes. IsInstalled bytes.items checked.now.program checked.now.parameters) }
 {
-    let image = image_of(alloc, program, params)?;
+    law_of_built_programs();
+    let image = image_of(alloc, &checked.program, &checked.params)?;
     write_image(alloc, &image)
 }

@@ -8,4 +8,4 @@ mod tables;
 mod words;
 
 pub use installing::install;
-pub use law::law_of_installed_images;
+pub use law::{law_of_built_programs, law_of_installed_images};
