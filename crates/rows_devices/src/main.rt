@@ -126,8 +126,10 @@ fn run(rt: &HostRuntime) -> io::Result<()> {
     let mut units = Units::new();
     let _ = units.attach(5, Box::new(alloc, InputUnit::new(alloc, rt.stdin())?)?);
     let _ = units.attach(6, Box::new(alloc, OutputUnit::new(alloc, rt.stdout())?)?);
-    for n in [1, 2, 3, 7, 8] {
-        let _ = units.attach(n, Box::new(alloc, FileUnit::new(*rt, alloc, n)?)?);
+    for n in 1..9 {
+        if n < 4 || n > 6 {
+            let _ = units.attach(n, Box::new(alloc, FileUnit::new(*rt, alloc, n)?)?);
+        }
     }
     make_calls(alloc, &mut units)?;
     let failed = units.close_all();
