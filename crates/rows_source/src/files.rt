@@ -105,7 +105,12 @@ static ROWS: [(Files, Files, &[u64], &[u8]); 21] = [
         &[],
         b"faults 1 P1;",
     ),
-    (BARE, &[("SRC", b"L BRANCH L\n END\n")], &[], b"not built"),
+    (
+        BARE,
+        &[("SRC", b" DATE S\nS SPEC\n END\n")],
+        &[],
+        b"not built",
+    ),
 ];
 
 /// Files that are too long, and what is answered.
