@@ -7,7 +7,7 @@ use Rattle.layout_params.specs.declared.cell.Cell.TheVariants.{Descr as Describe
 use Rattle.sil_model.specs.declared.program.Arg.{Arg}
 use Rattle.sil_model.specs.Access.{◌>>=◌, descr_at, put_cell}
 use Rattle.sil_model.specs.Arguments.{at_place, gotos_at, maybe_place_at, nth_location}
-use Rattle.sil_model.specs.CallClauses.{hand_back, location_or}
+use Rattle.flow_clauses.specs.CallClauses.{hand_back, location_or}
 use Rattle.sil_model.specs.Memory.{Memory, IsMemory}
 use Rattle.sil_model.specs.States.{State, Step}
 use Rattle.sil_micro.specs.declared.op.Test.TheVariants.{Eq}
@@ -24,9 +24,9 @@ use Rattle.sil_micro.specs.Pieces.{placed, joined, is_part, fits_part, is_no_beg
 use Rattle.sil_micro.proofs.Fields.{f_again, v_again}
 use Rattle.sil_micro.proofs.Making.{by_option, by_test, more, by_way, then_part}
 use Rattle.sil_micro.proofs.Parts.{part_joined}
-use Rattle.exp_choices.specs.Locations.{IsAmong, lead}
-use Rattle.exp_choices.proofs.Leads.{lead_within}
-use Rattle.exp_stack.proofs.JoinedParts.{IsPart, both_parts, grows_then}
+use Rattle.exp_common.specs.Locations.{IsAmong, lead}
+use Rattle.exp_common.proofs.Leads.{lead_within}
+use Rattle.exp_common.proofs.JoinedParts.{IsPart, both_parts, grows_then}
 use Rattle.exp_calls.specs.CallHalves.{answer, gone_on, handed}
 use Rattle.exp_calls.specs.CallParts.{given_code, located_code, return_code}
 

@@ -7,17 +7,17 @@ use Rattle.sil_macros.specs.declared.names.Macro.TheVariants.{Rcall}
 use Rattle.sil_model.specs.declared.program.Arg.{Arg}
 use Rattle.sil_model.specs.declared.program.Flow.TheVariants.{To}
 use Rattle.sil_model.specs.declared.program.Specials.{Specials}
-use Rattle.sil_model.specs.Access.{◌>>=◌}
-use Rattle.sil_model.specs.CallClauses.{entry_of, rcall}
-use Rattle.sil_model.specs.Costs.{listed, visits}
-use Rattle.sil_model.specs.DescriptorClauses.{integer_alone}
+use Rattle.sil_model.specs.Access.{◌>>=◌, integer_alone}
+use Rattle.flow_clauses.specs.CallClauses.{entry_of, rcall}
+use Rattle.flow_clauses.specs.FlowTable.{flow_visits}
+use Rattle.sil_model.specs.OperandCounts.{listed}
 use Rattle.sil_model.specs.Effects.{Effect, goes}
 use Rattle.sil_model.specs.Integers.{◌⊞◌, wrapped_sum, wrapped_product}
 use Rattle.sil_model.specs.Lists.{all_read, all_written}
-use Rattle.sil_model.specs.Machine.{settle}
+use Rattle.sil_model.specs.Settling.{settle}
 use Rattle.sil_model.specs.Memory.{Memory, IsMemory}
 use Rattle.sil_model.specs.Sites.{Site}
-use Rattle.sil_model.specs.StackClauses.{above, cells_above, summit, to_special}
+use Rattle.flow_clauses.specs.StackClauses.{above, cells_above, summit, to_special}
 use Rattle.sil_model.specs.States.{State}
 use Rattle.sil_micro.specs.declared.op.Op.{Op}
 use Rattle.sil_micro.specs.Expands.{Does, IsPiece, Makes, at, cost_at, site_at}
@@ -25,10 +25,10 @@ use Rattle.sil_micro.specs.MicroStates.{Setting, Micro, Registers}
 use Rattle.sil_micro.specs.Pieces.{joined, is_part}
 use Rattle.sil_micro.proofs.Making.{more, by_way, then_part}
 use Rattle.sil_micro.proofs.Parts.{length_joined, part_joined}
-use Rattle.exp_choices.specs.Locations.{IsAmong}
+use Rattle.exp_common.specs.Locations.{IsAmong}
 use Rattle.exp_stack.specs.ListParts.{gather_code, guard_code, line_code, places_code, scatter_code, up_head}
 use Rattle.exp_stack.proofs.Arithmetic.{add_pos, times_size}
-use Rattle.exp_stack.proofs.JoinedParts.{IsPart, both_parts, whole_piece}
+use Rattle.exp_common.proofs.JoinedParts.{IsPart, both_parts, whole_piece}
 use Rattle.exp_stack.proofs.ScratchWords.{HoldsAt, holds_below}
 use Rattle.exp_stack.proofs.StackPlaces.{last_of, last_is}
 use Rattle.exp_stack.proofs.Starts.{begun_at, up_first, up_goes, after_up, guard_goes, guard_inside, guard_light, guard_part, guard_weight}
@@ -231,11 +231,11 @@ module _ (k : ℕ) (over : Option ℕ) (procedure : ℕ) (ds : List ℤ) (d : Op
         (λ i at' words' w' lined' pays'.
         frame_goes (record r { r1 = x; r2 = y }) u.failed cost i y at' words' w' v named few (holds_below ds 0 100 words words' (omega (arith, few)) lined'.kept lined.holds) lined'.holds (omega (arith, pays, pays', enough))))))
 
-  pub rcall_does : (specials : Specials) (args : List Arg) → IsCall args d procedure ds ls → specials.over ≡ over → k < 2 ^ 32 → length ds ≤ 40 → Does k rcall_code specials args rcall (visits Rcall)
+  pub rcall_does : (specials : Specials) (args : List Arg) → IsCall args d procedure ds ls → specials.over ≡ over → k < 2 ^ 32 → length ds ≤ 40 → Does k rcall_code specials args rcall (flow_visits Rcall)
   rcall_does specials args is same named few g program parameters u h =
       let site = site_at program parameters k args in
       let start : State = at k u.state in
-      let cost = cost_at args (visits Rcall) site start in
+      let cost = cost_at args (flow_visits Rcall) site start in
       let t = top g u in
       let places = ap (λ o. listed o) is.places_are in
       let enough : 2800 + 800 * length ds ≤ cost = omega (arith, places) in

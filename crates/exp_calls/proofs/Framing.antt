@@ -4,9 +4,9 @@ use Rattle.std.proofs.lemmas.Bool.Decides.{nat_tests}
 use Rattle.std.specs.Prelude.{ℤ, nat_le}
 use Rattle.layout_params.specs.declared.cell.Descr.{Descr}
 use Rattle.sil_model.specs.declared.limits.Limits.{Limits}
-use Rattle.sil_model.specs.DescriptorClauses.{integer_alone}
+use Rattle.sil_model.specs.Access.{integer_alone}
 use Rattle.sil_micro.proofs.Fields.{fits_within}
-use Rattle.exp_stack.proofs.JoinedParts.{IsPart}
+use Rattle.exp_common.proofs.JoinedParts.{IsPart}
 use Rattle.exp_stack.proofs.ScratchWords.{Gathered, gathered_none, gathered_more, with_value}
 use Rattle.exp_calls.specs.CallParts.{enter_code, frame_code}
 

@@ -5,12 +5,12 @@ use Rattle.sil_model.specs.declared.program.Flow.TheVariants.{To}
 use Rattle.sil_model.specs.declared.program.Statement.{Statement}
 use Rattle.sil_model.specs.Access.{◌>>=◌, a_at}
 use Rattle.sil_model.specs.Arguments.{gotos_at, maybe_number_at, maybe_place_at, nth_location}
-use Rattle.sil_model.specs.CallClauses.{call_at, hand_back, is_top, location_at, location_or, rrturn, statement_of}
+use Rattle.flow_clauses.specs.CallClauses.{call_at, hand_back, is_top, location_at, location_or, rrturn, statement_of}
 use Rattle.sil_model.specs.Effects.{Effect, goes}
-use Rattle.sil_model.specs.Machine.{settle}
+use Rattle.sil_model.specs.Settling.{settle}
 use Rattle.sil_model.specs.Memory.{Memory}
 use Rattle.sil_model.specs.Sites.{Site}
-use Rattle.sil_model.specs.StackClauses.{above}
+use Rattle.flow_clauses.specs.StackClauses.{above}
 use Rattle.sil_model.specs.States.{State}
 use Rattle.exp_calls.specs.CallHalves.{answer, gone_on, handed, numbered}
 

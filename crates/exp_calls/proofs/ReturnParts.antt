@@ -6,10 +6,10 @@ use Rattle.layout_params.specs.declared.cell.Descr.{Descr}
 use Rattle.sil_base.specs.declared.places.TheConstants.{FIRST_CELL}
 use Rattle.sil_model.specs.declared.end.End.TheVariants as ends
 use Rattle.sil_model.specs.Access.{◌>>=◌, a_at, descr_at}
-use Rattle.sil_model.specs.CallClauses.{is_between}
+use Rattle.flow_clauses.specs.CallClauses.{is_between}
 use Rattle.sil_model.specs.Integers.{◌⊞◌, ◌⊟◌, wrapped_sum, wrapped_difference, wrapped_product}
 use Rattle.sil_model.specs.Memory.{Memory, IsMemory}
-use Rattle.sil_model.specs.StackClauses.{above}
+use Rattle.flow_clauses.specs.StackClauses.{above}
 use Rattle.sil_model.specs.States.{State}
 use Rattle.sil_micro.specs.declared.op.Op.{Op}
 use Rattle.sil_micro.specs.MicroStates.{Setting, Micro, Registers}
@@ -18,9 +18,9 @@ use Rattle.sil_micro.specs.MicroWords.{remainder}
 use Rattle.sil_micro.specs.Pieces.{joined, is_part}
 use Rattle.sil_micro.proofs.Making.{more}
 use Rattle.sil_micro.proofs.Parts.{alike}
-use Rattle.exp_descr.proofs.Questions.{by_read}
+use Rattle.exp_common.proofs.Questions.{by_read}
 use Rattle.exp_stack.proofs.Arithmetic.{add_pos, difference_pos, times_size}
-use Rattle.exp_stack.proofs.JoinedParts.{IsFirst, IsPart}
+use Rattle.exp_common.proofs.JoinedParts.{IsFirst, IsPart}
 use Rattle.exp_stack.proofs.StackPlaces.{stack_of}
 use Rattle.exp_calls.specs.CallHalves.{numbered}
 use Rattle.exp_calls.specs.ReturnParts.{flagged, frame_read_code, hand_over_code, top_code}

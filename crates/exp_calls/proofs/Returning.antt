@@ -11,18 +11,18 @@ use Rattle.sil_model.specs.declared.program.Program.{Program}
 use Rattle.sil_model.specs.declared.program.Specials.{Specials}
 use Rattle.sil_model.specs.Access.{a_at}
 use Rattle.sil_model.specs.Arguments.{maybe_number_at, maybe_place_at}
-use Rattle.sil_model.specs.CallClauses.{is_between, is_top, rrturn}
-use Rattle.sil_model.specs.Costs.{visits}
-use Rattle.sil_model.specs.Machine.{settle}
+use Rattle.flow_clauses.specs.CallClauses.{is_between, is_top, rrturn}
+use Rattle.flow_clauses.specs.FlowTable.{flow_visits}
+use Rattle.sil_model.specs.Settling.{settle}
 use Rattle.sil_model.specs.Sites.{Site}
-use Rattle.sil_model.specs.StackClauses.{above, bottom}
+use Rattle.flow_clauses.specs.StackClauses.{above, bottom}
 use Rattle.sil_model.specs.States.{State}
 use Rattle.sil_micro.specs.declared.op.Op.{Op}
 use Rattle.sil_micro.specs.Expands.{CanBegin, IsPiece, Meets, at, cost_at, site_at}
 use Rattle.sil_micro.specs.MicroStates.{Setting, Micro}
 use Rattle.sil_micro.specs.MicroWays.{Way, Ended}
 use Rattle.sil_micro.specs.Pieces.{joined}
-use Rattle.exp_stack.proofs.JoinedParts.{IsPart, both_parts, whole_piece}
+use Rattle.exp_common.proofs.JoinedParts.{IsPart, both_parts, whole_piece}
 use Rattle.exp_stack.proofs.StackPlaces.{last_of, last_is, bottom_is}
 use Rattle.exp_calls.specs.CallHalves.{DoesReturn, MeetsReturn, handed, numbered}
 use Rattle.exp_calls.specs.ReturnParts.{flagged, frame_read_code, hand_over_code, number_or_absent, place_or_absent, top_code}
@@ -72,7 +72,7 @@ module _ (k : ℕ) (specials : Specials) (place number : Option ℤ) where
     last = FIRST_CELL + length u.state.memory.cells * u.state.memory.limits.cell_size - u.state.memory.limits.cell_size
 
     fails : rrturn site s ≡ None → (v : Micro) → StaysLight u v → IsMet (Ended (Some (ends.Undefined k)) v)
-    fails none v x = subst (λ e. Meets (Ended (Some (ends.Undefined k)) v) (settle s e) (cost_at operands (visits Rrturn) site s)) (sym none) (refl, x.tapes, omega (arith, x.light))
+    fails none v x = subst (λ e. Meets (Ended (Some (ends.Undefined k)) v) (settle s e) (cost_at operands (flow_visits Rrturn) site s)) (sym none) (refl, x.tapes, omega (arith, x.light))
 
     tested : (saved : ℤ) → is_top site saved ≡ is_between (pos first) (pos last) u.state.memory.limits.cell_size saved
     unfolding is_top

@@ -2,7 +2,7 @@
 use Rattle.std.proofs.Common.{◌≡◌, ℕ, ◌-◌, ◌%◌, ◌<◌, ◌≤◌, ◌^◌, Bool, true, false, ◌&&◌, ◌==◌, refl, sym, ap, ◌∙◌, arith}
 use Rattle.std.proofs.lemmas.Bool.Decides.{nat_tests}
 use Rattle.std.specs.Prelude.{ℤ, pos, negsuc, int_lt, nat_le}
-use Rattle.sil_model.specs.CallClauses.{is_between}
+use Rattle.flow_clauses.specs.CallClauses.{is_between}
 use Rattle.sil_model.specs.Integers.{◌⊟◌}
 use Rattle.sil_micro.specs.MicroWords.{remainder, same_integer}
 use Rattle.exp_stack.proofs.Arithmetic.{difference_pos}

@@ -8,12 +8,12 @@ use Rattle.sil_model.specs.declared.program.Program.{Program}
 use Rattle.sil_model.specs.declared.program.Specials.{Specials}
 use Rattle.sil_model.specs.Access.{◌>>=◌, a_at}
 use Rattle.sil_model.specs.Arguments.{gotos_at, maybe_number_at, maybe_place_at, nth_location}
-use Rattle.sil_model.specs.CallClauses.{hand_back, is_top, location_or, rcall, rrturn}
-use Rattle.sil_model.specs.Costs.{visits}
-use Rattle.sil_model.specs.Machine.{ends_with, settle}
+use Rattle.flow_clauses.specs.CallClauses.{hand_back, is_top, location_or, rcall, rrturn}
+use Rattle.flow_clauses.specs.FlowTable.{flow_visits}
+use Rattle.sil_model.specs.Settling.{ends_with, settle}
 use Rattle.sil_model.specs.Memory.{Memory, IsMemory}
 use Rattle.sil_model.specs.Sites.{Site}
-use Rattle.sil_model.specs.StackClauses.{above}
+use Rattle.flow_clauses.specs.StackClauses.{above}
 use Rattle.sil_model.specs.States.{State, Step, Goes}
 use Rattle.sil_micro.specs.declared.op.Op.{Op}
 use Rattle.sil_micro.specs.Codes.{MicroCode, appended, begun}
@@ -60,7 +60,7 @@ pub record ExpandsCall (old new : MicroCode) (k : ℕ) (specials : Specials) (ar
   pub part : ℕ
   pub stands : new ≡ record (appended (begun k old) piece) { returns = slice_set old.returns k (Some (length old.ops + part)) }
   pub is_piece : IsPiece k (length old.entries) (length old.formats) false piece
-  pub does : Does k piece specials args rcall (visits Rcall)
+  pub does : Does k piece specials args rcall (flow_visits Rcall)
   pub answers : DoesAnswer k piece part args
 
 -- ---- RRTURN
@@ -79,7 +79,7 @@ pub record HandsOver (site : Site) (s : State) (entry : ℤ) (u : Micro) : Type 
 -- a way ends as the step ends, or jumps to a return part
 abbrev pub MeetsReturn : Way → Site → State → Type 0
 MeetsReturn (Returned entry u) site s = HandsOver site s entry u
-MeetsReturn (Ended end u) site s = Meets (Ended end u) (settle s (rrturn site s)) (cost_at site.args (visits Rrturn) site s)
+MeetsReturn (Ended end u) site s = Meets (Ended end u) (settle s (rrturn site s)) (cost_at site.args (flow_visits Rrturn) site s)
 MeetsReturn _ site s = ⊥
 
 -- with this fuel it does

@@ -10,7 +10,7 @@ use Rattle.sil_micro.specs.declared.op.Fixed.TheVariants.{Number}
 use Rattle.sil_micro.specs.declared.op.Op.{Op}
 use Rattle.sil_micro.specs.declared.op.Op.TheVariants.{Const, Arith, Jump, JumpIf, LoadField, StoreCell, LoadWord, StoreWord}
 use Rattle.sil_micro.specs.Pieces.{joined}
-use Rattle.exp_choices.specs.Locations.{lead}
+use Rattle.exp_common.specs.Locations.{lead}
 use Rattle.exp_stack.specs.ListParts.{gather_code, guard_code, line_code, places_code, scatter_code, up_head}
 
 -- the two cells of the frame of call k, the old top and the call's entry, go to the values

@@ -3,7 +3,7 @@ ghost use Rattle.std.specs.Prelude.{◌≡◌, ◌+◌, ◌*◌, ◌<◌, ◌≤
 ghost use Rattle.sil_micro.specs.Codes.{appended};
 ghost use Rattle.exp_calls.specs.CallParts.{given_code, located_code, return_code};
 
-use crate::locations::lead;
+use exp_common::lead;
 use sil_micro::{Code, op};
 use std::alloc::AllocError;
 

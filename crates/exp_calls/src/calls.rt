@@ -1,8 +1,8 @@
 // The call.
 ghost use Rattle.std.specs.Prelude.{◌+◌, ◌<◌, ◌≤◌, ◌^◌, List, All, OnOk, length};
 ghost use Rattle.sil_model.specs.declared.program.Arg.{Arg};
-ghost use Rattle.exp_choices.specs.Locations.{IsAmong};
-ghost use Rattle.exp_stack.specs.Allowed.{AreAmong};
+ghost use Rattle.exp_common.specs.Locations.{IsAmong};
+ghost use Rattle.exp_common.specs.Allowed.{AreAmong};
 ghost use Rattle.exp_calls.specs.CallHalves.{ExpandsCall};
 ghost use Rattle.exp_calls.specs.CallOperands.{IsCall};
 

@@ -1,11 +1,11 @@
 // The expansion of a statement whose macro is a call.
 ghost use Rattle.std.specs.Prelude.{◌≡◌, ◌*◌, ◌<◌, ◌≤◌, All, OnOk, IsTrue, length};
 ghost use Rattle.sil_macros.specs.MacroRows.{row};
-ghost use Rattle.sil_model.specs.CallClauses.{is_rcall};
+ghost use Rattle.flow_clauses.specs.CallClauses.{is_rcall};
 ghost use Rattle.sil_model.specs.Fits.{fit};
 ghost use Rattle.sil_micro.specs.Pieces.{weights};
-ghost use Rattle.exp_choices.specs.Locations.{LocatesWithin};
-ghost use Rattle.exp_stack.specs.Allowed.{AreAmong, HasFewItems};
+ghost use Rattle.exp_common.specs.Locations.{LocatesWithin};
+ghost use Rattle.exp_common.specs.Allowed.{AreAmong, HasFewItems};
 ghost use Rattle.exp_calls.specs.CallHalves.{ExpandsCall};
 
 use crate::calls::rcall;

@@ -5,7 +5,6 @@ mod answers;
 mod calls;
 mod expansion;
 mod frames;
-mod locations;
 mod operands;
 mod returns;
 

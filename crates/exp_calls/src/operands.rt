@@ -4,7 +4,7 @@ ghost use Rattle.sil_macros.specs.OperandPlaces.{D, DD, LL, R, maybe};
 ghost use Rattle.sil_model.specs.Arguments.{goto_at, gotos_at, maybe_place_at, maybe_places_at};
 ghost use Rattle.sil_model.specs.Fits.{fit};
 ghost use Rattle.sil_model.specs.declared.program.Flow.TheVariants.{To};
-ghost use Rattle.exp_stack.specs.Allowed.{HasFewItems};
+ghost use Rattle.exp_common.specs.Allowed.{HasFewItems};
 
 use sil_model::Arg;
 

@@ -1,4 +1,3 @@
-pub mod Leads
 pub mod Orders
 pub mod Sums
 pub mod Products

@@ -4,7 +4,7 @@ use Rattle.std.proofs.lemmas.Bool.Decides.{nat_tests}
 use Rattle.std.proofs.lemmas.Int.{ints}
 use Rattle.std.specs.Prelude.{ℤ, int_lt}
 use Rattle.sil_model.specs.declared.program.Flow.{Flow}
-use Rattle.sil_model.specs.ComparisonClauses.{by_equality}
+use Rattle.choice_clauses.specs.ComparisonClauses.{by_equality}
 use Rattle.sil_micro.specs.MicroWords.{same_integer}
 
 -- the first is greater, or they are equal, or it is less

@@ -5,7 +5,7 @@ use Rattle.std.proofs.lemmas.Int.{ints, to_z-of_z, wrapping_mul_is}
 use Rattle.std.specs.Prelude.{ℤ, pos, negsuc, int_lt, int_div, FitsSigned, ◌*ℤ◌}
 use Rattle.std.specs.Int.{w64, int_wrap}
 use Rattle.sil_model.specs.Integers.{in_range, wrapped_product}
-use Rattle.sil_model.specs.IntegerClauses.{quotient as exact_quotient}
+use Rattle.choice_clauses.specs.IntegerClauses.{quotient as exact_quotient}
 use Rattle.sil_micro.specs.MicroWords.{same_integer, high_half, high_product, quotient}
 
 -- ---- the high half of a product that is held is the sign of the low one

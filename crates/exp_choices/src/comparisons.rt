@@ -1,12 +1,12 @@
 // The macros that compare, one function each.
 ghost use Rattle.std.specs.Prelude.{◌+◌, ◌<◌, ◌≤◌, ◌^◌, ◌∷◌, [], All, OnOk, false, length};
-ghost use Rattle.sil_model.specs.ComparisonClauses.{acomp, acompc, aeql, aeqlc, aeqlic, chkval, deql, lcomp, leqlc, testf, testfi, vcmpic, veql, veqlc};
-ghost use Rattle.sil_model.specs.Costs.{visits};
+ghost use Rattle.choice_clauses.specs.ComparisonClauses.{acomp, acompc, aeql, aeqlc, aeqlic, chkval, deql, lcomp, leqlc, testf, testfi, vcmpic, veql, veqlc};
+ghost use Rattle.choice_clauses.specs.ChoiceTable.{choice_visits};
 ghost use Rattle.sil_model.specs.Effects.{on_memory};
 ghost use Rattle.sil_model.specs.declared.program.Arg.TheVariants.{Flag, Goto, Number, Place};
 ghost use Rattle.sil_macros.specs.declared.names.Macro.TheVariants.{Acomp, Acompc, Aeql, Aeqlc, Aeqlic, Chkval, Deql, Lcomp, Leqlc, Testf, Testfi, Vcmpic, Veql, Veqlc};
 ghost use Rattle.sil_micro.specs.Expands.{Expands};
-ghost use Rattle.exp_choices.specs.Locations.{LocatesWithin};
+ghost use Rattle.exp_common.specs.Locations.{LocatesWithin};
 
 use crate::locations::{ByAnswer, ByOrder};
 use sil_base::MAX_STATEMENTS;
@@ -27,7 +27,7 @@ pub fn acomp(
     requires few { length code.old.entries ≤ MAX_STATEMENTS }
     requires room { length code.old.ops + 1500 < 2 ^ 32 }
     requires within { All (LocatesWithin (length code.old.entries)) (Place d1 ∷ Place d2 ∷ Goto to.greater ∷ Goto to.equal ∷ Goto to.less ∷ []) }
-    ensures { OnOk result (Expands code.old code.new k specials.now (Place d1 ∷ Place d2 ∷ Goto to.greater ∷ Goto to.equal ∷ Goto to.less ∷ []) (on_memory acomp) (visits Acomp) false) }
+    ensures { OnOk result (Expands code.old code.new k specials.now (Place d1 ∷ Place d2 ∷ Goto to.greater ∷ Goto to.equal ∷ Goto to.less ∷ []) (on_memory acomp) (choice_visits Acomp) false) }
 {
     let (greater, equal, less) = to.statements(k);
     code.begin_statement(k);
@@ -57,7 +57,7 @@ pub fn acompc(
     requires few { length code.old.entries ≤ MAX_STATEMENTS }
     requires room { length code.old.ops + 1500 < 2 ^ 32 }
     requires within { All (LocatesWithin (length code.old.entries)) (Place d ∷ Number n ∷ Goto to.greater ∷ Goto to.equal ∷ Goto to.less ∷ []) }
-    ensures { OnOk result (Expands code.old code.new k specials.now (Place d ∷ Number n ∷ Goto to.greater ∷ Goto to.equal ∷ Goto to.less ∷ []) (on_memory acompc) (visits Acompc) false) }
+    ensures { OnOk result (Expands code.old code.new k specials.now (Place d ∷ Number n ∷ Goto to.greater ∷ Goto to.equal ∷ Goto to.less ∷ []) (on_memory acompc) (choice_visits Acompc) false) }
 {
     let (greater, equal, less) = to.statements(k);
     code.begin_statement(k);
@@ -86,7 +86,7 @@ pub fn aeql(
     requires few { length code.old.entries ≤ MAX_STATEMENTS }
     requires room { length code.old.ops + 1500 < 2 ^ 32 }
     requires within { All (LocatesWithin (length code.old.entries)) (Place d1 ∷ Place d2 ∷ Goto to.no ∷ Goto to.yes ∷ []) }
-    ensures { OnOk result (Expands code.old code.new k specials.now (Place d1 ∷ Place d2 ∷ Goto to.no ∷ Goto to.yes ∷ []) (on_memory aeql) (visits Aeql) false) }
+    ensures { OnOk result (Expands code.old code.new k specials.now (Place d1 ∷ Place d2 ∷ Goto to.no ∷ Goto to.yes ∷ []) (on_memory aeql) (choice_visits Aeql) false) }
 {
     let (no, yes) = to.statements(k);
     code.begin_statement(k);
@@ -115,7 +115,7 @@ pub fn aeqlc(
     requires few { length code.old.entries ≤ MAX_STATEMENTS }
     requires room { length code.old.ops + 1500 < 2 ^ 32 }
     requires within { All (LocatesWithin (length code.old.entries)) (Place d ∷ Number n ∷ Goto to.no ∷ Goto to.yes ∷ []) }
-    ensures { OnOk result (Expands code.old code.new k specials.now (Place d ∷ Number n ∷ Goto to.no ∷ Goto to.yes ∷ []) (on_memory aeqlc) (visits Aeqlc) false) }
+    ensures { OnOk result (Expands code.old code.new k specials.now (Place d ∷ Number n ∷ Goto to.no ∷ Goto to.yes ∷ []) (on_memory aeqlc) (choice_visits Aeqlc) false) }
 {
     let (no, yes) = to.statements(k);
     code.begin_statement(k);
@@ -144,7 +144,7 @@ pub fn aeqlic(
     requires few { length code.old.entries ≤ MAX_STATEMENTS }
     requires room { length code.old.ops + 1500 < 2 ^ 32 }
     requires within { All (LocatesWithin (length code.old.entries)) (Place d ∷ Number n1 ∷ Number n2 ∷ Goto to.no ∷ Goto to.yes ∷ []) }
-    ensures { OnOk result (Expands code.old code.new k specials.now (Place d ∷ Number n1 ∷ Number n2 ∷ Goto to.no ∷ Goto to.yes ∷ []) (on_memory aeqlic) (visits Aeqlic) false) }
+    ensures { OnOk result (Expands code.old code.new k specials.now (Place d ∷ Number n1 ∷ Number n2 ∷ Goto to.no ∷ Goto to.yes ∷ []) (on_memory aeqlic) (choice_visits Aeqlic) false) }
 {
     let (no, yes) = to.statements(k);
     code.begin_statement(k);
@@ -176,7 +176,7 @@ pub fn chkval(
     requires few { length code.old.entries ≤ MAX_STATEMENTS }
     requires room { length code.old.ops + 1500 < 2 ^ 32 }
     requires within { All (LocatesWithin (length code.old.entries)) (Place d1 ∷ Place d2 ∷ Place s ∷ Goto to.greater ∷ Goto to.equal ∷ Goto to.less ∷ []) }
-    ensures { OnOk result (Expands code.old code.new k specials.now (Place d1 ∷ Place d2 ∷ Place s ∷ Goto to.greater ∷ Goto to.equal ∷ Goto to.less ∷ []) (on_memory chkval) (visits Chkval) false) }
+    ensures { OnOk result (Expands code.old code.new k specials.now (Place d1 ∷ Place d2 ∷ Place s ∷ Goto to.greater ∷ Goto to.equal ∷ Goto to.less ∷ []) (on_memory chkval) (choice_visits Chkval) false) }
 {
     let (greater, equal, less) = to.statements(k);
     code.begin_statement(k);
@@ -211,7 +211,7 @@ pub fn deql(
     requires few { length code.old.entries ≤ MAX_STATEMENTS }
     requires room { length code.old.ops + 1500 < 2 ^ 32 }
     requires within { All (LocatesWithin (length code.old.entries)) (Place d1 ∷ Place d2 ∷ Goto to.no ∷ Goto to.yes ∷ []) }
-    ensures { OnOk result (Expands code.old code.new k specials.now (Place d1 ∷ Place d2 ∷ Goto to.no ∷ Goto to.yes ∷ []) (on_memory deql) (visits Deql) false) }
+    ensures { OnOk result (Expands code.old code.new k specials.now (Place d1 ∷ Place d2 ∷ Goto to.no ∷ Goto to.yes ∷ []) (on_memory deql) (choice_visits Deql) false) }
 {
     let (no, yes) = to.statements(k);
     code.begin_statement(k);
@@ -246,7 +246,7 @@ pub fn lcomp(
     requires few { length code.old.entries ≤ MAX_STATEMENTS }
     requires room { length code.old.ops + 1500 < 2 ^ 32 }
     requires within { All (LocatesWithin (length code.old.entries)) (Place s1 ∷ Place s2 ∷ Goto to.greater ∷ Goto to.equal ∷ Goto to.less ∷ []) }
-    ensures { OnOk result (Expands code.old code.new k specials.now (Place s1 ∷ Place s2 ∷ Goto to.greater ∷ Goto to.equal ∷ Goto to.less ∷ []) (on_memory lcomp) (visits Lcomp) false) }
+    ensures { OnOk result (Expands code.old code.new k specials.now (Place s1 ∷ Place s2 ∷ Goto to.greater ∷ Goto to.equal ∷ Goto to.less ∷ []) (on_memory lcomp) (choice_visits Lcomp) false) }
 {
     let (greater, equal, less) = to.statements(k);
     code.begin_statement(k);
@@ -279,7 +279,7 @@ pub fn leqlc(
     requires few { length code.old.entries ≤ MAX_STATEMENTS }
     requires room { length code.old.ops + 1500 < 2 ^ 32 }
     requires within { All (LocatesWithin (length code.old.entries)) (Place s ∷ Number n ∷ Goto to.no ∷ Goto to.yes ∷ []) }
-    ensures { OnOk result (Expands code.old code.new k specials.now (Place s ∷ Number n ∷ Goto to.no ∷ Goto to.yes ∷ []) (on_memory leqlc) (visits Leqlc) false) }
+    ensures { OnOk result (Expands code.old code.new k specials.now (Place s ∷ Number n ∷ Goto to.no ∷ Goto to.yes ∷ []) (on_memory leqlc) (choice_visits Leqlc) false) }
 {
     let (no, yes) = to.statements(k);
     code.begin_statement(k);
@@ -309,7 +309,7 @@ pub fn testf(
     requires few { length code.old.entries ≤ MAX_STATEMENTS }
     requires room { length code.old.ops + 1500 < 2 ^ 32 }
     requires within { All (LocatesWithin (length code.old.entries)) (Place d ∷ Flag flags ∷ Goto to.no ∷ Goto to.yes ∷ []) }
-    ensures { OnOk result (Expands code.old code.new k specials.now (Place d ∷ Flag flags ∷ Goto to.no ∷ Goto to.yes ∷ []) (on_memory testf) (visits Testf) false) }
+    ensures { OnOk result (Expands code.old code.new k specials.now (Place d ∷ Flag flags ∷ Goto to.no ∷ Goto to.yes ∷ []) (on_memory testf) (choice_visits Testf) false) }
 {
     let (no, yes) = to.statements(k);
     code.begin_statement(k);
@@ -338,7 +338,7 @@ pub fn testfi(
     requires few { length code.old.entries ≤ MAX_STATEMENTS }
     requires room { length code.old.ops + 1500 < 2 ^ 32 }
     requires within { All (LocatesWithin (length code.old.entries)) (Place d ∷ Flag flags ∷ Goto to.no ∷ Goto to.yes ∷ []) }
-    ensures { OnOk result (Expands code.old code.new k specials.now (Place d ∷ Flag flags ∷ Goto to.no ∷ Goto to.yes ∷ []) (on_memory testfi) (visits Testfi) false) }
+    ensures { OnOk result (Expands code.old code.new k specials.now (Place d ∷ Flag flags ∷ Goto to.no ∷ Goto to.yes ∷ []) (on_memory testfi) (choice_visits Testfi) false) }
 {
     let (no, yes) = to.statements(k);
     code.begin_statement(k);
@@ -369,7 +369,7 @@ pub fn vcmpic(
     requires few { length code.old.entries ≤ MAX_STATEMENTS }
     requires room { length code.old.ops + 1500 < 2 ^ 32 }
     requires within { All (LocatesWithin (length code.old.entries)) (Place d1 ∷ Number n ∷ Place d2 ∷ Goto to.greater ∷ Goto to.equal ∷ Goto to.less ∷ []) }
-    ensures { OnOk result (Expands code.old code.new k specials.now (Place d1 ∷ Number n ∷ Place d2 ∷ Goto to.greater ∷ Goto to.equal ∷ Goto to.less ∷ []) (on_memory vcmpic) (visits Vcmpic) false) }
+    ensures { OnOk result (Expands code.old code.new k specials.now (Place d1 ∷ Number n ∷ Place d2 ∷ Goto to.greater ∷ Goto to.equal ∷ Goto to.less ∷ []) (on_memory vcmpic) (choice_visits Vcmpic) false) }
 {
     let (greater, equal, less) = to.statements(k);
     code.begin_statement(k);
@@ -402,7 +402,7 @@ pub fn veql(
     requires few { length code.old.entries ≤ MAX_STATEMENTS }
     requires room { length code.old.ops + 1500 < 2 ^ 32 }
     requires within { All (LocatesWithin (length code.old.entries)) (Place d1 ∷ Place d2 ∷ Goto to.no ∷ Goto to.yes ∷ []) }
-    ensures { OnOk result (Expands code.old code.new k specials.now (Place d1 ∷ Place d2 ∷ Goto to.no ∷ Goto to.yes ∷ []) (on_memory veql) (visits Veql) false) }
+    ensures { OnOk result (Expands code.old code.new k specials.now (Place d1 ∷ Place d2 ∷ Goto to.no ∷ Goto to.yes ∷ []) (on_memory veql) (choice_visits Veql) false) }
 {
     let (no, yes) = to.statements(k);
     code.begin_statement(k);
@@ -431,7 +431,7 @@ pub fn veqlc(
     requires few { length code.old.entries ≤ MAX_STATEMENTS }
     requires room { length code.old.ops + 1500 < 2 ^ 32 }
     requires within { All (LocatesWithin (length code.old.entries)) (Place d ∷ Number n ∷ Goto to.no ∷ Goto to.yes ∷ []) }
-    ensures { OnOk result (Expands code.old code.new k specials.now (Place d ∷ Number n ∷ Goto to.no ∷ Goto to.yes ∷ []) (on_memory veqlc) (visits Veqlc) false) }
+    ensures { OnOk result (Expands code.old code.new k specials.now (Place d ∷ Number n ∷ Goto to.no ∷ Goto to.yes ∷ []) (on_memory veqlc) (choice_visits Veqlc) false) }
 {
     let (no, yes) = to.statements(k);
     code.begin_statement(k);

@@ -1,14 +1,13 @@
 // The expansion of a statement whose macro compares, or is one on integers.
 ghost use Rattle.std.specs.Prelude.{◌≡◌, ◌*◌, ◌<◌, ◌≤◌, All, OnOk, IsTrue, length};
 ghost use Rattle.sil_macros.specs.MacroRows.{row};
-ghost use Rattle.sil_model.specs.Costs.{visits};
+ghost use Rattle.choice_clauses.specs.ChoiceTable.{choice_visits, choice_clause};
 ghost use Rattle.sil_model.specs.Fits.{fit};
 ghost use Rattle.sil_model.specs.Prints.{writes_records};
-ghost use Rattle.sil_model.specs.Table.{clause};
 ghost use Rattle.sil_micro.specs.Expands.{Expands};
 ghost use Rattle.sil_micro.specs.Pieces.{weights};
 ghost use Rattle.exp_choices.specs.Group.{is_choice};
-ghost use Rattle.exp_choices.specs.Locations.{LocatesWithin};
+ghost use Rattle.exp_common.specs.Locations.{LocatesWithin};
 
 use crate::comparisons::{
     acomp, acompc, aeql, aeqlc, aeqlic, chkval, deql, lcomp, leqlc, testf, testfi, vcmpic, veql,
@@ -57,7 +56,7 @@ pub fn is_choice(name: Macro) -> bool
 
 /// Expands statement number `at`. After an error the code may have a part of the statement's
 /// operations.
-#[tactic(auto, unfolding(sil_model::specs::Table::clause))]
+#[tactic(auto, unfolding(choice_clauses::specs::ChoiceTable::choice_clause))]
 pub fn expand_choice(
     alloc: Global,
     statement: &Statement,
@@ -71,7 +70,7 @@ pub fn expand_choice(
     requires number { at < length code.old.entries }
     requires few { length code.old.entries ≤ MAX_STATEMENTS }
     requires light { weights code.old.ops ≤ MAX_PIECE_WEIGHT * at }
-    ensures { OnOk result (Expands code.old code.new at specials.now statement.now.args (clause statement.now.name) (visits statement.now.name) (writes_records statement.now.name)) }
+    ensures { OnOk result (Expands code.old code.new at specials.now statement.now.args (choice_clause statement.now.name) (choice_visits statement.now.name) (writes_records statement.now.name)) }
 {
     let _ = alloc;
     has_room(code, at);

@@ -1,12 +1,12 @@
 // The macros on integers, one function each.
 ghost use Rattle.std.specs.Prelude.{◌+◌, ◌<◌, ◌≤◌, ◌^◌, ◌∷◌, [], All, OnOk, false, length};
-ghost use Rattle.sil_model.specs.Costs.{visits};
+ghost use Rattle.choice_clauses.specs.ChoiceTable.{choice_visits};
 ghost use Rattle.sil_model.specs.Effects.{on_memory};
-ghost use Rattle.sil_model.specs.IntegerClauses.{divide, mnsint, mult, multc, subtrt, sum};
+ghost use Rattle.choice_clauses.specs.IntegerClauses.{divide, mnsint, mult, multc, subtrt, sum};
 ghost use Rattle.sil_model.specs.declared.program.Arg.TheVariants.{Goto, Number, Place};
 ghost use Rattle.sil_macros.specs.declared.names.Macro.TheVariants.{Divide, Mnsint, Mult, Multc, Subtrt, Sum};
 ghost use Rattle.sil_micro.specs.Expands.{Expands};
-ghost use Rattle.exp_choices.specs.Locations.{LocatesWithin};
+ghost use Rattle.exp_common.specs.Locations.{LocatesWithin};
 
 use crate::locations::ByAnswer;
 use sil_base::MAX_STATEMENTS;
@@ -28,7 +28,7 @@ pub fn divide(
     requires few { length code.old.entries ≤ MAX_STATEMENTS }
     requires room { length code.old.ops + 1500 < 2 ^ 32 }
     requires within { All (LocatesWithin (length code.old.entries)) (Place d1 ∷ Place d2 ∷ Place d3 ∷ Goto to.no ∷ Goto to.yes ∷ []) }
-    ensures { OnOk result (Expands code.old code.new k specials.now (Place d1 ∷ Place d2 ∷ Place d3 ∷ Goto to.no ∷ Goto to.yes ∷ []) (on_memory divide) (visits Divide) false) }
+    ensures { OnOk result (Expands code.old code.new k specials.now (Place d1 ∷ Place d2 ∷ Place d3 ∷ Goto to.no ∷ Goto to.yes ∷ []) (on_memory divide) (choice_visits Divide) false) }
 {
     let (no, yes) = to.statements(k);
     code.begin_statement(k);
@@ -67,7 +67,7 @@ pub fn mnsint(
     requires few { length code.old.entries ≤ MAX_STATEMENTS }
     requires room { length code.old.ops + 1500 < 2 ^ 32 }
     requires within { All (LocatesWithin (length code.old.entries)) (Place d1 ∷ Place d2 ∷ Goto to.no ∷ Goto to.yes ∷ []) }
-    ensures { OnOk result (Expands code.old code.new k specials.now (Place d1 ∷ Place d2 ∷ Goto to.no ∷ Goto to.yes ∷ []) (on_memory mnsint) (visits Mnsint) false) }
+    ensures { OnOk result (Expands code.old code.new k specials.now (Place d1 ∷ Place d2 ∷ Goto to.no ∷ Goto to.yes ∷ []) (on_memory mnsint) (choice_visits Mnsint) false) }
 {
     let (no, yes) = to.statements(k);
     code.begin_statement(k);
@@ -102,7 +102,7 @@ pub fn mult(
     requires few { length code.old.entries ≤ MAX_STATEMENTS }
     requires room { length code.old.ops + 1500 < 2 ^ 32 }
     requires within { All (LocatesWithin (length code.old.entries)) (Place d1 ∷ Place d2 ∷ Place d3 ∷ Goto to.no ∷ Goto to.yes ∷ []) }
-    ensures { OnOk result (Expands code.old code.new k specials.now (Place d1 ∷ Place d2 ∷ Place d3 ∷ Goto to.no ∷ Goto to.yes ∷ []) (on_memory mult) (visits Mult) false) }
+    ensures { OnOk result (Expands code.old code.new k specials.now (Place d1 ∷ Place d2 ∷ Place d3 ∷ Goto to.no ∷ Goto to.yes ∷ []) (on_memory mult) (choice_visits Mult) false) }
 {
     let (no, yes) = to.statements(k);
     code.begin_statement(k);
@@ -138,7 +138,7 @@ pub fn multc(
 ) -> Result<(), AllocError>
     requires statement { k < length code.old.entries }
     requires room { length code.old.ops + 1500 < 2 ^ 32 }
-    ensures { OnOk result (Expands code.old code.new k specials.now (Place d1 ∷ Place d2 ∷ Number n ∷ []) (on_memory multc) (visits Multc) false) }
+    ensures { OnOk result (Expands code.old code.new k specials.now (Place d1 ∷ Place d2 ∷ Number n ∷ []) (on_memory multc) (choice_visits Multc) false) }
 {
     code.begin_statement(k);
     code.append(&[
@@ -168,7 +168,7 @@ pub fn subtrt(
     requires few { length code.old.entries ≤ MAX_STATEMENTS }
     requires room { length code.old.ops + 1500 < 2 ^ 32 }
     requires within { All (LocatesWithin (length code.old.entries)) (Place d1 ∷ Place d2 ∷ Place d3 ∷ Goto to.no ∷ Goto to.yes ∷ []) }
-    ensures { OnOk result (Expands code.old code.new k specials.now (Place d1 ∷ Place d2 ∷ Place d3 ∷ Goto to.no ∷ Goto to.yes ∷ []) (on_memory subtrt) (visits Subtrt) false) }
+    ensures { OnOk result (Expands code.old code.new k specials.now (Place d1 ∷ Place d2 ∷ Place d3 ∷ Goto to.no ∷ Goto to.yes ∷ []) (on_memory subtrt) (choice_visits Subtrt) false) }
 {
     let (no, yes) = to.statements(k);
     code.begin_statement(k);
@@ -207,7 +207,7 @@ pub fn sum(
     requires few { length code.old.entries ≤ MAX_STATEMENTS }
     requires room { length code.old.ops + 1500 < 2 ^ 32 }
     requires within { All (LocatesWithin (length code.old.entries)) (Place d1 ∷ Place d2 ∷ Place d3 ∷ Goto to.no ∷ Goto to.yes ∷ []) }
-    ensures { OnOk result (Expands code.old code.new k specials.now (Place d1 ∷ Place d2 ∷ Place d3 ∷ Goto to.no ∷ Goto to.yes ∷ []) (on_memory sum) (visits Sum) false) }
+    ensures { OnOk result (Expands code.old code.new k specials.now (Place d1 ∷ Place d2 ∷ Place d3 ∷ Goto to.no ∷ Goto to.yes ∷ []) (on_memory sum) (choice_visits Sum) false) }
 {
     let (no, yes) = to.statements(k);
     code.begin_statement(k);

@@ -1,6 +1,8 @@
 // The statements that a statement goes to.
 ghost use Rattle.std.specs.Prelude.{◌≡◌, ◌<◌, ◌^◌};
-ghost use Rattle.exp_choices.specs.Locations.{lead};
+ghost use Rattle.exp_common.specs.Locations.{lead};
+
+use exp_common::lead;
 
 /// The locations of a comparison of order, each the number of a statement, or none for the next one.
 #[derive(Clone, Copy)]
@@ -41,16 +43,5 @@ impl ByAnswer {
         ensures yes { result.1 ≡ lead k self.yes }
     {
         (lead(k, self.no), lead(k, self.yes))
-    }
-}
-
-/// The statement that a location of statement `k` leads to.
-fn lead(k: u32, location: Option<u32>) -> u32
-    requires { k < 2 ^ 31 }
-    ensures { result ≡ lead k location }
-{
-    match location {
-        Some(statement) => statement,
-        None => k + 1,
     }
 }

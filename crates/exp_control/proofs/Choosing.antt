@@ -18,10 +18,10 @@ use Rattle.sil_micro.specs.MicroStates.{Setting, Registers}
 use Rattle.sil_micro.specs.MicroWords.{same_integer}
 use Rattle.sil_micro.specs.Pieces.{placed, joined, is_part, fits_part, is_no_begin, is_quiet, names_within, weights}
 use Rattle.sil_micro.proofs.Making.{by_test, by_way, more, then_part}
-use Rattle.exp_choices.specs.Locations.{IsAmong, lead}
-use Rattle.exp_choices.proofs.Leads.{lead_within}
+use Rattle.exp_common.specs.Locations.{IsAmong, lead}
+use Rattle.exp_common.proofs.Leads.{lead_within}
 use Rattle.exp_control.specs.SelectionParts.{choices_code}
-use Rattle.exp_stack.proofs.JoinedParts.{IsPart, grows_then}
+use Rattle.exp_common.proofs.JoinedParts.{IsPart, grows_then}
 
 -- the operations of one location
 abbrev pub choice_code : ℕ → ℕ → Option ℕ → List Op

@@ -8,11 +8,11 @@ use Rattle.layout_params.specs.Parameters.{Parameters, Settings}
 use Rattle.sil_model.specs.declared.program.Arg.{Arg}
 use Rattle.sil_model.specs.declared.program.Program.{Program}
 use Rattle.sil_model.specs.declared.program.Specials.{Specials}
-use Rattle.sil_model.specs.CallClauses.{entered}
-use Rattle.sil_model.specs.FlowClauses.{first_dynamic, past_dynamic}
+use Rattle.flow_clauses.specs.FlowClauses.{first_dynamic, past_dynamic}
 use Rattle.sil_model.specs.Integers.{◌⊟◌, wrapped_difference}
 use Rattle.sil_micro.specs.Expands.{CanBegin}
-use Rattle.sil_micro.specs.Operations.{cell_address, entered_statement}
+use Rattle.sil_model.specs.Entries.{entered_statement}
+use Rattle.sil_micro.specs.Operations.{cell_address}
 use Rattle.sil_micro.specs.MicroStates.{Setting, Micro}
 
 -- differences of small numbers don't wrap
@@ -22,11 +22,6 @@ difference x y h k = grind (arith, ints)
 
 pub one_less : (n : ℕ) → n < 2 ^ 62 → pos (n + 1) ⊟ pos 1 ≡ pos n
 one_less n h = let e : n + 1 - 1 ≡ n = omega arith in difference (n + 1) 1 (omega arith) (omega arith) ∙ ap pos e
-
-pub same_entered : (size count : ℕ) (n : ℤ) → entered size count n ≡ entered_statement size count n
-unfolding entered entered_statement
-same_entered size count (pos n) = refl
-same_entered size count (negsuc n) = refl
 
 module _ (g : Setting) (program : Program) (parameters : Parameters) (specials : Specials) (k : ℕ) (args : List Arg) (u : Micro) (h : CanBegin g program parameters specials k args u) where
   pub cell_size : u.state.memory.limits.cell_size ≡ parameters.settings.sizes.descr
@@ -54,5 +49,5 @@ module _ (g : Setting) (program : Program) (parameters : Parameters) (specials :
       ap (λ z. z ⊟ pos u.state.memory.limits.cell_size) past ∙ ap (λ n. past_dynamic parameters.settings (length program.cells) ⊟ pos n) cell_size
       ∙ difference (FIRST_CELL + x * d) d (omega arith) (omega arith)
 
-  pub statement : (entry : ℤ) → entered parameters.settings.sizes.descr (length program.statements) entry ≡ entered_statement u.state.memory.limits.cell_size g.statements entry
-  statement entry = same_entered parameters.settings.sizes.descr (length program.statements) entry ∙ ap (λ n. entered_statement n (length program.statements) entry) (sym cell_size) ∙ ap (λ n. entered_statement u.state.memory.limits.cell_size n entry) (sym h.setting.statements)
+  pub statement : (entry : ℤ) → entered_statement parameters.settings.sizes.descr (length program.statements) entry ≡ entered_statement u.state.memory.limits.cell_size g.statements entry
+  statement entry = ap (λ n. entered_statement n (length program.statements) entry) (sym cell_size) ∙ ap (λ n. entered_statement u.state.memory.limits.cell_size n entry) (sym h.setting.statements)

@@ -3,10 +3,10 @@ use Rattle.std.proofs.Common.{◌≡◌, ℕ, ◌+◌, ◌*◌, List, [], ◌∷
 use Rattle.sil_macros.specs.declared.names.Macro.TheVariants.{Init}
 use Rattle.sil_model.specs.declared.program.Specials.{Specials}
 use Rattle.sil_model.specs.Access.{◌>>=◌}
-use Rattle.sil_model.specs.Costs.{visits}
+use Rattle.flow_clauses.specs.FlowTable.{flow_visits}
 use Rattle.sil_model.specs.Effects.{MemoryEffect, on_site, with_memory}
-use Rattle.sil_model.specs.FlowClauses.{init}
-use Rattle.sil_model.specs.Machine.{settle}
+use Rattle.flow_clauses.specs.FlowClauses.{init}
+use Rattle.sil_model.specs.Settling.{settle}
 use Rattle.sil_model.specs.Memory.{Memory}
 use Rattle.sil_model.specs.Sites.{Site}
 use Rattle.sil_micro.specs.declared.op.Fixed.TheVariants.{Number}
@@ -46,7 +46,7 @@ init_is_undefined site m h = none_of_three site.program.specials.first site.prog
 abbrev pub undefined_code : ℕ → List Op
 undefined_code k = Begin k ∷ Const 1 (Number (pos 3)) ∷ EndBy 1 ∷ []
 
-pub undefined_does : (k : ℕ) (specials : Specials) → storage specials ≡ None → Does k (undefined_code k) specials [] (on_site init) (visits Init)
+pub undefined_does : (k : ℕ) (specials : Specials) → storage specials ≡ None → Does k (undefined_code k) specials [] (on_site init) (flow_visits Init)
 undefined_does k specials none g program parameters u h =
     let undefined = init_is_undefined (site_at program parameters k []) u.state.memory (subst (λ x. storage x ≡ None) (sym h.setting.symbols) none) in
     subst (λ (e : MemoryEffect). Makes g (k + 1) (undefined_code k) 0 u (settle (at k u.state) (with_memory (at k u.state) e)) (2000 + 400 * (0 + 3))) (sym undefined) (record { fuel = 4; meets = simp h.left (refl, refl, lit≤ tt) })

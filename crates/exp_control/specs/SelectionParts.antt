@@ -8,7 +8,7 @@ use Rattle.sil_micro.specs.declared.op.Op.{Op}
 use Rattle.sil_micro.specs.declared.op.Op.TheVariants.{Const, JumpIf, LoadField, Begin}
 use Rattle.sil_micro.specs.declared.op.Target.TheVariants.{Statement}
 use Rattle.sil_micro.specs.declared.op.Test.TheVariants.{Eq}
-use Rattle.exp_choices.specs.Locations.{lead}
+use Rattle.exp_common.specs.Locations.{lead}
 
 -- the number goes to register 2
 unfoldable pub selection_head : ℕ → ℤ → List Op

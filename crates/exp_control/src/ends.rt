@@ -1,6 +1,6 @@
 // Traps, and nothing.
 ghost use Rattle.std.specs.Prelude.{ℕ, ◌+◌, ◌<◌, ◌^◌, List, OnOk, false, length};
-ghost use Rattle.sil_model.specs.FlowClauses.{nothing, trap};
+ghost use Rattle.flow_clauses.specs.FlowClauses.{nothing, trap};
 ghost use Rattle.sil_model.specs.Effects.{on_memory};
 ghost use Rattle.sil_model.specs.Sites.{Site};
 ghost use Rattle.sil_model.specs.States.{State};

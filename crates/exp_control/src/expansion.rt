@@ -3,17 +3,16 @@ ghost use Rattle.std.specs.Prelude.{◌≡◌, ◌+◌, ◌*◌, ◌<◌, ◌≤
 ghost use Rattle.sil_macros.specs.MacroRows.{row};
 ghost use Rattle.sil_macros.specs.OperandPlaces.{D, LL};
 ghost use Rattle.sil_macros.specs.declared.names.Macro.TheVariants.{Selbra};
-ghost use Rattle.sil_model.specs.Costs.{visits};
+ghost use Rattle.flow_clauses.specs.FlowTable.{flow_visits, flow_clause};
 ghost use Rattle.sil_model.specs.Effects.{on_memory};
 ghost use Rattle.sil_model.specs.Fits.{fit};
-ghost use Rattle.sil_model.specs.FlowClauses.{selbra};
+ghost use Rattle.flow_clauses.specs.FlowClauses.{selbra};
 ghost use Rattle.sil_model.specs.Prints.{writes_records};
-ghost use Rattle.sil_model.specs.Table.{clause};
 ghost use Rattle.sil_micro.specs.Expands.{Expands};
 ghost use Rattle.sil_micro.specs.Pieces.{weights};
-ghost use Rattle.exp_choices.specs.Locations.{LocatesWithin};
+ghost use Rattle.exp_common.specs.Locations.{LocatesWithin};
 ghost use Rattle.exp_control.specs.Group.{does_something, is_control};
-ghost use Rattle.exp_stack.specs.Allowed.{HasFewItems};
+ghost use Rattle.exp_common.specs.Allowed.{HasFewItems};
 
 use crate::ends::{nothing, trap};
 use crate::jumps::{branch, branic, load};
@@ -62,7 +61,7 @@ pub fn is_control(name: Macro) -> bool
 
 /// Expands statement number `at`. After an error the code may have a part of the statement's
 /// operations.
-#[tactic(auto, unfolding(sil_model::specs::Table::clause))]
+#[tactic(auto, unfolding(flow_clauses::specs::FlowTable::flow_clause))]
 pub fn expand_control(
     alloc: Global,
     statement: &Statement,
@@ -77,7 +76,7 @@ pub fn expand_control(
     requires number { at < length code.old.entries }
     requires few { length code.old.entries ≤ MAX_STATEMENTS }
     requires light { weights code.old.ops ≤ MAX_PIECE_WEIGHT * at }
-    ensures { OnOk result (Expands code.old code.new at specials.now statement.now.args (clause statement.now.name) (visits statement.now.name) (writes_records statement.now.name)) }
+    ensures { OnOk result (Expands code.old code.new at specials.now statement.now.args (flow_clause statement.now.name) (flow_visits statement.now.name) (writes_records statement.now.name)) }
 {
     let _ = alloc;
     has_room(code, at);
@@ -100,7 +99,7 @@ pub fn expand_control(
 }
 
 /// Expands a statement that does something.
-#[tactic(auto, unfolding(sil_model::specs::Table::clause))]
+#[tactic(auto, unfolding(flow_clauses::specs::FlowTable::flow_clause))]
 fn expand_other(
     name: Macro,
     args: &[Arg],
@@ -115,7 +114,7 @@ fn expand_other(
     requires number { at < length code.old.entries }
     requires few { length code.old.entries ≤ MAX_STATEMENTS }
     requires room { length code.old.ops + 1500 < 2 ^ 32 }
-    ensures { OnOk result (Expands code.old code.new at specials.now args.now (clause name) (visits name) (writes_records name)) }
+    ensures { OnOk result (Expands code.old code.new at specials.now args.now (flow_clause name) (flow_visits name) (writes_records name)) }
 {
     match name {
         Macro::Branch => branch(code, at, specials, location(args)),
@@ -149,7 +148,7 @@ fn expand_selbra(
     requires number { at < length code.old.entries }
     requires few { length code.old.entries ≤ MAX_STATEMENTS }
     requires room { length code.old.ops + 1500 < 2 ^ 32 }
-    ensures { OnOk result (Expands code.old code.new at specials.now args.now (on_memory selbra) (visits Selbra) false) }
+    ensures { OnOk result (Expands code.old code.new at specials.now args.now (on_memory selbra) (flow_visits Selbra) false) }
 {
     match args {
         [Arg::Place(d), Arg::Gotos(locations)] => {

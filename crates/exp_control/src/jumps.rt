@@ -1,15 +1,15 @@
 // Jumps to statements.
 ghost use Rattle.std.specs.Prelude.{◌+◌, ◌<◌, ◌≤◌, ◌^◌, ◌∷◌, [], Some, OnOk, false, length};
 ghost use Rattle.sil_macros.specs.declared.names.Macro.TheVariants.{Branch, Branic, Load};
-ghost use Rattle.sil_model.specs.CallClauses.{branic};
-ghost use Rattle.sil_model.specs.Costs.{visits};
+ghost use Rattle.flow_clauses.specs.CallClauses.{branic};
+ghost use Rattle.flow_clauses.specs.FlowTable.{flow_visits};
 ghost use Rattle.sil_model.specs.Effects.{on_memory, on_site};
-ghost use Rattle.sil_model.specs.FlowClauses.{branch, load};
+ghost use Rattle.flow_clauses.specs.FlowClauses.{branch, load};
 ghost use Rattle.sil_model.specs.declared.program.Arg.TheVariants.{Absent, Goto, Number, Place};
 ghost use Rattle.sil_micro.specs.Expands.{Expands};
-ghost use Rattle.exp_choices.specs.Locations.{IsAmong};
+ghost use Rattle.exp_common.specs.Locations.{IsAmong};
 
-use crate::locations::lead;
+use exp_common::lead;
 use sil_base::MAX_STATEMENTS;
 use sil_micro::{Code, Op, op};
 use sil_model::Specials;
@@ -20,7 +20,7 @@ pub fn branch(code: &mut Code, k: u32, specials: &Specials, to: u32) -> Result<(
     requires statement { k < length code.old.entries }
     requires room { length code.old.ops + 1500 < 2 ^ 32 }
     requires within { to < length code.old.entries }
-    ensures { OnOk result (Expands code.old code.new k specials.now (Goto (Some to) ∷ Absent ∷ []) (on_memory branch) (visits Branch) false) }
+    ensures { OnOk result (Expands code.old code.new k specials.now (Goto (Some to) ∷ Absent ∷ []) (on_memory branch) (flow_visits Branch) false) }
 {
     code.begin_statement(k);
     code.append(&[op!(begin k), op!(jump Statement(to))])?;
@@ -40,7 +40,7 @@ pub fn load(
     requires few { length code.old.entries ≤ MAX_STATEMENTS }
     requires room { length code.old.ops + 1500 < 2 ^ 32 }
     requires within { IsAmong (length code.old.entries) failure }
-    ensures { OnOk result (Expands code.old code.new k specials.now (Place places.0 ∷ Place places.1 ∷ Place places.2 ∷ Goto failure ∷ Goto success ∷ []) (on_memory load) (visits Load) false) }
+    ensures { OnOk result (Expands code.old code.new k specials.now (Place places.0 ∷ Place places.1 ∷ Place places.2 ∷ Goto failure ∷ Goto success ∷ []) (on_memory load) (flow_visits Load) false) }
 {
     let _ = (places, success);
     let to = lead(k, failure);
@@ -59,7 +59,7 @@ pub fn branic(
 ) -> Result<(), AllocError>
     requires statement { k < length code.old.entries }
     requires room { length code.old.ops + 1500 < 2 ^ 32 }
-    ensures { OnOk result (Expands code.old code.new k specials.now (Place d ∷ Number n ∷ []) (on_site branic) (visits Branic) false) }
+    ensures { OnOk result (Expands code.old code.new k specials.now (Place d ∷ Number n ∷ []) (on_site branic) (flow_visits Branic) false) }
 {
     code.begin_statement(k);
     code.append(&[

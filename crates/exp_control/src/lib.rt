@@ -4,7 +4,6 @@
 mod ends;
 mod expansion;
 mod jumps;
-mod locations;
 mod operands;
 mod selection;
 mod stack;

@@ -1,16 +1,16 @@
 // A selection by number.
 ghost use Rattle.std.specs.Prelude.{◌≡◌, ◌+◌, ◌*◌, ◌<◌, ◌≤◌, ◌^◌, ◌∷◌, [], All, OnOk, false, length};
 ghost use Rattle.sil_macros.specs.declared.names.Macro.TheVariants.{Selbra};
-ghost use Rattle.sil_model.specs.Costs.{visits};
+ghost use Rattle.flow_clauses.specs.FlowTable.{flow_visits};
 ghost use Rattle.sil_model.specs.Effects.{on_memory};
-ghost use Rattle.sil_model.specs.FlowClauses.{selbra};
+ghost use Rattle.flow_clauses.specs.FlowClauses.{selbra};
 ghost use Rattle.sil_model.specs.declared.program.Arg.TheVariants.{Gotos, Place};
 ghost use Rattle.sil_micro.specs.Codes.{appended};
 ghost use Rattle.sil_micro.specs.Expands.{Expands};
-ghost use Rattle.exp_choices.specs.Locations.{IsAmong};
+ghost use Rattle.exp_common.specs.Locations.{IsAmong};
 ghost use Rattle.exp_control.specs.SelectionParts.{choices_code, selection_head};
 
-use crate::locations::lead;
+use exp_common::lead;
 use sil_base::MAX_STATEMENTS;
 use sil_micro::{Code, op};
 use sil_model::Specials;
@@ -55,7 +55,7 @@ pub fn selbra(
     requires room { length code.old.ops + 1500 < 2 ^ 32 }
     requires few { length locations.now ≤ 40 }
     requires within { All (IsAmong (length code.old.entries)) locations.now }
-    ensures { OnOk result (Expands code.old code.new k specials.now (Place d ∷ Gotos locations.now ∷ []) (on_memory selbra) (visits Selbra) false) }
+    ensures { OnOk result (Expands code.old code.new k specials.now (Place d ∷ Gotos locations.now ∷ []) (on_memory selbra) (flow_visits Selbra) false) }
 {
     code.begin_statement(k);
     append_head(code, k, d)?;

@@ -1,8 +1,8 @@
 // Tops of the stack.
 ghost use Rattle.std.specs.Prelude.{◌+◌, ◌<◌, ◌^◌, ◌∷◌, [], OnOk, false, length};
 ghost use Rattle.sil_macros.specs.declared.names.Macro.TheVariants.{Istack, Pstack};
-ghost use Rattle.sil_model.specs.Costs.{visits};
-ghost use Rattle.sil_model.specs.StackClauses.{istack, pstack};
+ghost use Rattle.flow_clauses.specs.FlowTable.{flow_visits};
+ghost use Rattle.flow_clauses.specs.StackClauses.{istack, pstack};
 ghost use Rattle.sil_model.specs.declared.program.Arg.TheVariants.{Place};
 ghost use Rattle.sil_micro.specs.Expands.{Expands};
 
@@ -14,7 +14,7 @@ use std::alloc::AllocError;
 pub fn istack(code: &mut Code, k: u32, specials: &Specials) -> Result<(), AllocError>
     requires statement { k < length code.old.entries }
     requires room { length code.old.ops + 1500 < 2 ^ 32 }
-    ensures { OnOk result (Expands code.old code.new k specials.now [] istack (visits Istack) false) }
+    ensures { OnOk result (Expands code.old code.new k specials.now [] istack (flow_visits Istack) false) }
 {
     code.begin_statement(k);
     code.append(&[
@@ -34,7 +34,7 @@ pub fn istack(code: &mut Code, k: u32, specials: &Specials) -> Result<(), AllocE
 pub fn pstack(code: &mut Code, k: u32, specials: &Specials, d: i64) -> Result<(), AllocError>
     requires statement { k < length code.old.entries }
     requires room { length code.old.ops + 1500 < 2 ^ 32 }
-    ensures { OnOk result (Expands code.old code.new k specials.now (Place d ∷ []) pstack (visits Pstack) false) }
+    ensures { OnOk result (Expands code.old code.new k specials.now (Place d ∷ []) pstack (flow_visits Pstack) false) }
 {
     code.begin_statement(k);
     code.append(&[

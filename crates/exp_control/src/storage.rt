@@ -1,9 +1,9 @@
 // The symbols of the dynamic storage.
 ghost use Rattle.std.specs.Prelude.{◌≡◌, ◌+◌, ◌<◌, ◌^◌, [], None, Some, OnOk, false, length};
 ghost use Rattle.sil_macros.specs.declared.names.Macro.TheVariants.{Init};
-ghost use Rattle.sil_model.specs.Costs.{visits};
+ghost use Rattle.flow_clauses.specs.FlowTable.{flow_visits};
 ghost use Rattle.sil_model.specs.Effects.{on_site};
-ghost use Rattle.sil_model.specs.FlowClauses.{init};
+ghost use Rattle.flow_clauses.specs.FlowClauses.{init};
 ghost use Rattle.sil_micro.specs.Expands.{Expands};
 ghost use Rattle.exp_control.specs.SelectionParts.{storage};
 
@@ -22,7 +22,7 @@ fn storage(specials: &Specials) -> Option<(i64, i64, i64)>
 pub fn init(code: &mut Code, k: u32, specials: &Specials) -> Result<(), AllocError>
     requires statement { k < length code.old.entries }
     requires room { length code.old.ops + 1500 < 2 ^ 32 }
-    ensures { OnOk result (Expands code.old code.new k specials.now [] (on_site init) (visits Init) false) }
+    ensures { OnOk result (Expands code.old code.new k specials.now [] (on_site init) (flow_visits Init) false) }
 {
     match storage(specials) {
         None => init_without(code, k, specials),
@@ -35,7 +35,7 @@ fn init_without(code: &mut Code, k: u32, specials: &Specials) -> Result<(), Allo
     requires statement { k < length code.old.entries }
     requires room { length code.old.ops + 1500 < 2 ^ 32 }
     requires none { storage specials.now ≡ None }
-    ensures { OnOk result (Expands code.old code.new k specials.now [] (on_site init) (visits Init) false) }
+    ensures { OnOk result (Expands code.old code.new k specials.now [] (on_site init) (flow_visits Init) false) }
 {
     code.begin_statement(k);
     code.append(&[op!(begin k), op!(number 1, 3), op!(end 1)])?;
@@ -53,7 +53,7 @@ fn init_with(
     requires statement { k < length code.old.entries }
     requires room { length code.old.ops + 1500 < 2 ^ 32 }
     requires some { storage specials.now ≡ Some (first, head, tail) }
-    ensures { OnOk result (Expands code.old code.new k specials.now [] (on_site init) (visits Init) false) }
+    ensures { OnOk result (Expands code.old code.new k specials.now [] (on_site init) (flow_visits Init) false) }
 {
     code.begin_statement(k);
     code.append(&[

@@ -1,7 +1,7 @@
 // The macros on descriptors, one function each.
 ghost use Rattle.std.specs.Prelude.{◌+◌, ◌<◌, ◌^◌, ◌∷◌, [], OnOk, false, length};
-ghost use Rattle.sil_model.specs.DescriptorClauses.{adjust, decra, getac, getd, getdc, getsiz, incra, incrv, mova, movd, movdic, movv, putac, putd, putdc, putvc, resetf, rsetfi, setac, setav, setf, setfi, setsiz, setva, setvc};
-ghost use Rattle.sil_model.specs.Costs.{visits};
+ghost use Rattle.descr_clauses.specs.DescriptorClauses.{adjust, decra, getac, getd, getdc, getsiz, incra, incrv, mova, movd, movdic, movv, putac, putd, putdc, putvc, resetf, rsetfi, setac, setav, setf, setfi, setsiz, setva, setvc};
+ghost use Rattle.descr_clauses.specs.DescrTable.{descr_visits};
 ghost use Rattle.sil_model.specs.Effects.{on_memory};
 ghost use Rattle.sil_model.specs.declared.program.Arg.TheVariants.{Flag, Number, Place};
 ghost use Rattle.sil_macros.specs.declared.names.Macro.TheVariants.{Adjust, Decra, Getac, Getd, Getdc, Getsiz, Incra, Incrv, Mova, Movd, Movdic, Movv, Putac, Putd, Putdc, Putvc, Resetf, Rsetfi, Setac, Setav, Setf, Setfi, Setsiz, Setva, Setvc};
@@ -22,7 +22,7 @@ pub fn adjust(
 ) -> Result<(), AllocError>
     requires statement { k < length code.old.entries }
     requires room { length code.old.ops + 1500 < 2 ^ 32 }
-    ensures { OnOk result (Expands code.old code.new k specials.now (Place d1 ∷ Place d2 ∷ Place d3 ∷ []) (on_memory adjust) (visits Adjust) false) }
+    ensures { OnOk result (Expands code.old code.new k specials.now (Place d1 ∷ Place d2 ∷ Place d3 ∷ []) (on_memory adjust) (descr_visits Adjust) false) }
 {
     code.begin_statement(k);
     code.append(&[
@@ -43,7 +43,7 @@ pub fn adjust(
 pub fn decra(code: &mut Code, k: u32, specials: &Specials, d: i64, n: i64) -> Result<(), AllocError>
     requires statement { k < length code.old.entries }
     requires room { length code.old.ops + 1500 < 2 ^ 32 }
-    ensures { OnOk result (Expands code.old code.new k specials.now (Place d ∷ Number n ∷ []) (on_memory decra) (visits Decra) false) }
+    ensures { OnOk result (Expands code.old code.new k specials.now (Place d ∷ Number n ∷ []) (on_memory decra) (descr_visits Decra) false) }
 {
     code.begin_statement(k);
     code.append(&[
@@ -68,7 +68,7 @@ pub fn getac(
 ) -> Result<(), AllocError>
     requires statement { k < length code.old.entries }
     requires room { length code.old.ops + 1500 < 2 ^ 32 }
-    ensures { OnOk result (Expands code.old code.new k specials.now (Place d1 ∷ Place d2 ∷ Number n ∷ []) (on_memory getac) (visits Getac) false) }
+    ensures { OnOk result (Expands code.old code.new k specials.now (Place d1 ∷ Place d2 ∷ Number n ∷ []) (on_memory getac) (descr_visits Getac) false) }
 {
     code.begin_statement(k);
     code.append(&[
@@ -95,7 +95,7 @@ pub fn getd(
 ) -> Result<(), AllocError>
     requires statement { k < length code.old.entries }
     requires room { length code.old.ops + 1500 < 2 ^ 32 }
-    ensures { OnOk result (Expands code.old code.new k specials.now (Place d1 ∷ Place d2 ∷ Place d3 ∷ []) (on_memory getd) (visits Getd) false) }
+    ensures { OnOk result (Expands code.old code.new k specials.now (Place d1 ∷ Place d2 ∷ Place d3 ∷ []) (on_memory getd) (descr_visits Getd) false) }
 {
     code.begin_statement(k);
     code.append(&[
@@ -125,7 +125,7 @@ pub fn getdc(
 ) -> Result<(), AllocError>
     requires statement { k < length code.old.entries }
     requires room { length code.old.ops + 1500 < 2 ^ 32 }
-    ensures { OnOk result (Expands code.old code.new k specials.now (Place d1 ∷ Place d2 ∷ Number n ∷ []) (on_memory getdc) (visits Getdc) false) }
+    ensures { OnOk result (Expands code.old code.new k specials.now (Place d1 ∷ Place d2 ∷ Number n ∷ []) (on_memory getdc) (descr_visits Getdc) false) }
 {
     code.begin_statement(k);
     code.append(&[
@@ -153,7 +153,7 @@ pub fn getsiz(
 ) -> Result<(), AllocError>
     requires statement { k < length code.old.entries }
     requires room { length code.old.ops + 1500 < 2 ^ 32 }
-    ensures { OnOk result (Expands code.old code.new k specials.now (Place d1 ∷ Place d2 ∷ []) (on_memory getsiz) (visits Getsiz) false) }
+    ensures { OnOk result (Expands code.old code.new k specials.now (Place d1 ∷ Place d2 ∷ []) (on_memory getsiz) (descr_visits Getsiz) false) }
 {
     code.begin_statement(k);
     code.append(&[
@@ -172,7 +172,7 @@ pub fn getsiz(
 pub fn incra(code: &mut Code, k: u32, specials: &Specials, d: i64, n: i64) -> Result<(), AllocError>
     requires statement { k < length code.old.entries }
     requires room { length code.old.ops + 1500 < 2 ^ 32 }
-    ensures { OnOk result (Expands code.old code.new k specials.now (Place d ∷ Number n ∷ []) (on_memory incra) (visits Incra) false) }
+    ensures { OnOk result (Expands code.old code.new k specials.now (Place d ∷ Number n ∷ []) (on_memory incra) (descr_visits Incra) false) }
 {
     code.begin_statement(k);
     code.append(&[
@@ -190,7 +190,7 @@ pub fn incra(code: &mut Code, k: u32, specials: &Specials, d: i64, n: i64) -> Re
 pub fn incrv(code: &mut Code, k: u32, specials: &Specials, d: i64, n: i64) -> Result<(), AllocError>
     requires statement { k < length code.old.entries }
     requires room { length code.old.ops + 1500 < 2 ^ 32 }
-    ensures { OnOk result (Expands code.old code.new k specials.now (Place d ∷ Number n ∷ []) (on_memory incrv) (visits Incrv) false) }
+    ensures { OnOk result (Expands code.old code.new k specials.now (Place d ∷ Number n ∷ []) (on_memory incrv) (descr_visits Incrv) false) }
 {
     code.begin_statement(k);
     code.append(&[
@@ -214,7 +214,7 @@ pub fn mova(
 ) -> Result<(), AllocError>
     requires statement { k < length code.old.entries }
     requires room { length code.old.ops + 1500 < 2 ^ 32 }
-    ensures { OnOk result (Expands code.old code.new k specials.now (Place d1 ∷ Place d2 ∷ []) (on_memory mova) (visits Mova) false) }
+    ensures { OnOk result (Expands code.old code.new k specials.now (Place d1 ∷ Place d2 ∷ []) (on_memory mova) (descr_visits Mova) false) }
 {
     code.begin_statement(k);
     code.append(&[
@@ -237,7 +237,7 @@ pub fn movd(
 ) -> Result<(), AllocError>
     requires statement { k < length code.old.entries }
     requires room { length code.old.ops + 1500 < 2 ^ 32 }
-    ensures { OnOk result (Expands code.old code.new k specials.now (Place d1 ∷ Place d2 ∷ []) (on_memory movd) (visits Movd) false) }
+    ensures { OnOk result (Expands code.old code.new k specials.now (Place d1 ∷ Place d2 ∷ []) (on_memory movd) (descr_visits Movd) false) }
 {
     code.begin_statement(k);
     code.append(&[
@@ -264,7 +264,7 @@ pub fn movdic(
 ) -> Result<(), AllocError>
     requires statement { k < length code.old.entries }
     requires room { length code.old.ops + 1500 < 2 ^ 32 }
-    ensures { OnOk result (Expands code.old code.new k specials.now (Place d1 ∷ Number n1 ∷ Place d2 ∷ Number n2 ∷ []) (on_memory movdic) (visits Movdic) false) }
+    ensures { OnOk result (Expands code.old code.new k specials.now (Place d1 ∷ Number n1 ∷ Place d2 ∷ Number n2 ∷ []) (on_memory movdic) (descr_visits Movdic) false) }
 {
     code.begin_statement(k);
     code.append(&[
@@ -295,7 +295,7 @@ pub fn movv(
 ) -> Result<(), AllocError>
     requires statement { k < length code.old.entries }
     requires room { length code.old.ops + 1500 < 2 ^ 32 }
-    ensures { OnOk result (Expands code.old code.new k specials.now (Place d1 ∷ Place d2 ∷ []) (on_memory movv) (visits Movv) false) }
+    ensures { OnOk result (Expands code.old code.new k specials.now (Place d1 ∷ Place d2 ∷ []) (on_memory movv) (descr_visits Movv) false) }
 {
     code.begin_statement(k);
     code.append(&[
@@ -319,7 +319,7 @@ pub fn putac(
 ) -> Result<(), AllocError>
     requires statement { k < length code.old.entries }
     requires room { length code.old.ops + 1500 < 2 ^ 32 }
-    ensures { OnOk result (Expands code.old code.new k specials.now (Place d1 ∷ Number n ∷ Place d2 ∷ []) (on_memory putac) (visits Putac) false) }
+    ensures { OnOk result (Expands code.old code.new k specials.now (Place d1 ∷ Number n ∷ Place d2 ∷ []) (on_memory putac) (descr_visits Putac) false) }
 {
     code.begin_statement(k);
     code.append(&[
@@ -346,7 +346,7 @@ pub fn putd(
 ) -> Result<(), AllocError>
     requires statement { k < length code.old.entries }
     requires room { length code.old.ops + 1500 < 2 ^ 32 }
-    ensures { OnOk result (Expands code.old code.new k specials.now (Place d1 ∷ Place d2 ∷ Place d3 ∷ []) (on_memory putd) (visits Putd) false) }
+    ensures { OnOk result (Expands code.old code.new k specials.now (Place d1 ∷ Place d2 ∷ Place d3 ∷ []) (on_memory putd) (descr_visits Putd) false) }
 {
     code.begin_statement(k);
     code.append(&[
@@ -376,7 +376,7 @@ pub fn putdc(
 ) -> Result<(), AllocError>
     requires statement { k < length code.old.entries }
     requires room { length code.old.ops + 1500 < 2 ^ 32 }
-    ensures { OnOk result (Expands code.old code.new k specials.now (Place d1 ∷ Number n ∷ Place d2 ∷ []) (on_memory putdc) (visits Putdc) false) }
+    ensures { OnOk result (Expands code.old code.new k specials.now (Place d1 ∷ Number n ∷ Place d2 ∷ []) (on_memory putdc) (descr_visits Putdc) false) }
 {
     code.begin_statement(k);
     code.append(&[
@@ -405,7 +405,7 @@ pub fn putvc(
 ) -> Result<(), AllocError>
     requires statement { k < length code.old.entries }
     requires room { length code.old.ops + 1500 < 2 ^ 32 }
-    ensures { OnOk result (Expands code.old code.new k specials.now (Place d1 ∷ Number n ∷ Place d2 ∷ []) (on_memory putvc) (visits Putvc) false) }
+    ensures { OnOk result (Expands code.old code.new k specials.now (Place d1 ∷ Number n ∷ Place d2 ∷ []) (on_memory putvc) (descr_visits Putvc) false) }
 {
     code.begin_statement(k);
     code.append(&[
@@ -431,7 +431,7 @@ pub fn resetf(
 ) -> Result<(), AllocError>
     requires statement { k < length code.old.entries }
     requires room { length code.old.ops + 1500 < 2 ^ 32 }
-    ensures { OnOk result (Expands code.old code.new k specials.now (Place d ∷ Flag flags ∷ []) (on_memory resetf) (visits Resetf) false) }
+    ensures { OnOk result (Expands code.old code.new k specials.now (Place d ∷ Flag flags ∷ []) (on_memory resetf) (descr_visits Resetf) false) }
 {
     code.begin_statement(k);
     code.append(&[
@@ -456,7 +456,7 @@ pub fn rsetfi(
 ) -> Result<(), AllocError>
     requires statement { k < length code.old.entries }
     requires room { length code.old.ops + 1500 < 2 ^ 32 }
-    ensures { OnOk result (Expands code.old code.new k specials.now (Place d ∷ Flag flags ∷ []) (on_memory rsetfi) (visits Rsetfi) false) }
+    ensures { OnOk result (Expands code.old code.new k specials.now (Place d ∷ Flag flags ∷ []) (on_memory rsetfi) (descr_visits Rsetfi) false) }
 {
     code.begin_statement(k);
     code.append(&[
@@ -476,7 +476,7 @@ pub fn rsetfi(
 pub fn setac(code: &mut Code, k: u32, specials: &Specials, d: i64, n: i64) -> Result<(), AllocError>
     requires statement { k < length code.old.entries }
     requires room { length code.old.ops + 1500 < 2 ^ 32 }
-    ensures { OnOk result (Expands code.old code.new k specials.now (Place d ∷ Number n ∷ []) (on_memory setac) (visits Setac) false) }
+    ensures { OnOk result (Expands code.old code.new k specials.now (Place d ∷ Number n ∷ []) (on_memory setac) (descr_visits Setac) false) }
 {
     code.begin_statement(k);
     code.append(&[
@@ -498,7 +498,7 @@ pub fn setav(
 ) -> Result<(), AllocError>
     requires statement { k < length code.old.entries }
     requires room { length code.old.ops + 1500 < 2 ^ 32 }
-    ensures { OnOk result (Expands code.old code.new k specials.now (Place d1 ∷ Place d2 ∷ []) (on_memory setav) (visits Setav) false) }
+    ensures { OnOk result (Expands code.old code.new k specials.now (Place d1 ∷ Place d2 ∷ []) (on_memory setav) (descr_visits Setav) false) }
 {
     code.begin_statement(k);
     code.append(&[
@@ -522,7 +522,7 @@ pub fn setf(
 ) -> Result<(), AllocError>
     requires statement { k < length code.old.entries }
     requires room { length code.old.ops + 1500 < 2 ^ 32 }
-    ensures { OnOk result (Expands code.old code.new k specials.now (Place d ∷ Flag flags ∷ []) (on_memory setf) (visits Setf) false) }
+    ensures { OnOk result (Expands code.old code.new k specials.now (Place d ∷ Flag flags ∷ []) (on_memory setf) (descr_visits Setf) false) }
 {
     code.begin_statement(k);
     code.append(&[
@@ -546,7 +546,7 @@ pub fn setfi(
 ) -> Result<(), AllocError>
     requires statement { k < length code.old.entries }
     requires room { length code.old.ops + 1500 < 2 ^ 32 }
-    ensures { OnOk result (Expands code.old code.new k specials.now (Place d ∷ Flag flags ∷ []) (on_memory setfi) (visits Setfi) false) }
+    ensures { OnOk result (Expands code.old code.new k specials.now (Place d ∷ Flag flags ∷ []) (on_memory setfi) (descr_visits Setfi) false) }
 {
     code.begin_statement(k);
     code.append(&[
@@ -571,7 +571,7 @@ pub fn setsiz(
 ) -> Result<(), AllocError>
     requires statement { k < length code.old.entries }
     requires room { length code.old.ops + 1500 < 2 ^ 32 }
-    ensures { OnOk result (Expands code.old code.new k specials.now (Place d1 ∷ Place d2 ∷ []) (on_memory setsiz) (visits Setsiz) false) }
+    ensures { OnOk result (Expands code.old code.new k specials.now (Place d1 ∷ Place d2 ∷ []) (on_memory setsiz) (descr_visits Setsiz) false) }
 {
     code.begin_statement(k);
     code.append(&[
@@ -595,7 +595,7 @@ pub fn setva(
 ) -> Result<(), AllocError>
     requires statement { k < length code.old.entries }
     requires room { length code.old.ops + 1500 < 2 ^ 32 }
-    ensures { OnOk result (Expands code.old code.new k specials.now (Place d1 ∷ Place d2 ∷ []) (on_memory setva) (visits Setva) false) }
+    ensures { OnOk result (Expands code.old code.new k specials.now (Place d1 ∷ Place d2 ∷ []) (on_memory setva) (descr_visits Setva) false) }
 {
     code.begin_statement(k);
     code.append(&[
@@ -612,7 +612,7 @@ pub fn setva(
 pub fn setvc(code: &mut Code, k: u32, specials: &Specials, d: i64, n: i64) -> Result<(), AllocError>
     requires statement { k < length code.old.entries }
     requires room { length code.old.ops + 1500 < 2 ^ 32 }
-    ensures { OnOk result (Expands code.old code.new k specials.now (Place d ∷ Number n ∷ []) (on_memory setvc) (visits Setvc) false) }
+    ensures { OnOk result (Expands code.old code.new k specials.now (Place d ∷ Number n ∷ []) (on_memory setvc) (descr_visits Setvc) false) }
 {
     code.begin_statement(k);
     code.append(&[

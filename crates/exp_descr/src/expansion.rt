@@ -1,10 +1,9 @@
 // The expansion of a statement whose macro is one of descriptors.
 ghost use Rattle.std.specs.Prelude.{◌*◌, ◌<◌, ◌≤◌, OnOk, IsTrue, length};
 ghost use Rattle.sil_macros.specs.MacroRows.{row};
-ghost use Rattle.sil_model.specs.Costs.{visits};
+ghost use Rattle.descr_clauses.specs.DescrTable.{descr_visits, descr_clause};
 ghost use Rattle.sil_model.specs.Fits.{fit};
 ghost use Rattle.sil_model.specs.Prints.{writes_records};
-ghost use Rattle.sil_model.specs.Table.{clause};
 ghost use Rattle.sil_micro.specs.Expands.{Expands};
 ghost use Rattle.sil_micro.specs.Pieces.{weights};
 ghost use Rattle.exp_descr.specs.Group.{is_descr};
@@ -25,7 +24,7 @@ use std::alloc::{AllocError, Global};
 
 /// Expands statement number `at`. After an error the code may have a part of the statement's
 /// operations.
-#[tactic(auto, unfolding(sil_model::specs::Table::clause))]
+#[tactic(auto, unfolding(descr_clauses::specs::DescrTable::descr_clause))]
 pub fn expand_descr(
     alloc: Global,
     statement: &Statement,
@@ -38,7 +37,7 @@ pub fn expand_descr(
     requires number { at < length code.old.entries }
     requires few { length code.old.entries ≤ MAX_STATEMENTS }
     requires light { weights code.old.ops ≤ MAX_PIECE_WEIGHT * at }
-    ensures { OnOk result (Expands code.old code.new at specials.now statement.now.args (clause statement.now.name) (visits statement.now.name) (writes_records statement.now.name)) }
+    ensures { OnOk result (Expands code.old code.new at specials.now statement.now.args (descr_clause statement.now.name) (descr_visits statement.now.name) (writes_records statement.now.name)) }
 {
     let _ = alloc;
     has_room(code, at);

@@ -2,7 +2,7 @@
 use Rattle.std.proofs.Common.{◌≡◌, zero, suc, false, refl, arith}
 use Rattle.std.proofs.lemmas.Bool.Decides.{nat_tests}
 use Rattle.std.specs.Prelude.{ℤ, pos, negsuc, nat_eq}
-use Rattle.sil_model.specs.FlowClauses.{exit_code}
+use Rattle.flow_clauses.specs.FlowClauses.{exit_code}
 use Rattle.sil_micro.specs.MicroWords.{same_integer}
 
 pub by_zero : {P : Type 0} (a : ℤ) → (a ≡ pos 0 → P) → (same_integer a (pos 0) ≡ false → exit_code a ≡ 1 → P) → P

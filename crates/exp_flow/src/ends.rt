@@ -1,8 +1,8 @@
 // Ends of runs.
 ghost use Rattle.std.specs.Prelude.{◌+◌, ◌<◌, ◌^◌, ◌∷◌, [], OnOk, false, length};
 ghost use Rattle.sil_macros.specs.declared.names.Macro.TheVariants.{Endex};
-ghost use Rattle.sil_model.specs.FlowClauses.{endex};
-ghost use Rattle.sil_model.specs.Costs.{visits};
+ghost use Rattle.flow_clauses.specs.FlowClauses.{endex};
+ghost use Rattle.flow_clauses.specs.FlowTable.{flow_visits};
 ghost use Rattle.sil_model.specs.Effects.{on_memory};
 ghost use Rattle.sil_model.specs.declared.program.Arg.TheVariants.{Place};
 ghost use Rattle.sil_micro.specs.Expands.{Expands};
@@ -15,7 +15,7 @@ use std::alloc::AllocError;
 pub fn endex(code: &mut Code, k: u32, specials: &Specials, d: i64) -> Result<(), AllocError>
     requires statement { k < length code.old.entries }
     requires room { length code.old.ops + 1500 < 2 ^ 32 }
-    ensures { OnOk result (Expands code.old code.new k specials.now (Place d ∷ []) (on_memory endex) (visits Endex) false) }
+    ensures { OnOk result (Expands code.old code.new k specials.now (Place d ∷ []) (on_memory endex) (flow_visits Endex) false) }
 {
     code.begin_statement(k);
     code.append(&[

@@ -19,7 +19,7 @@ use Rattle.sil_micro.proofs.Making.{more, by_way, then_part}
 use Rattle.sil_micro.proofs.Parts.{placed_joined, part_joined}
 use Rattle.exp_stack.specs.ListParts.{places_code, line_code}
 use Rattle.exp_stack.proofs.Arithmetic.{sub_one, add_pos}
-use Rattle.exp_stack.proofs.JoinedParts.{IsPart, grows_then}
+use Rattle.exp_common.proofs.JoinedParts.{IsPart, grows_then}
 use Rattle.exp_stack.proofs.ScratchWords.{Lined, lined_none, lined_more, fits_word}
 
 -- the operations of one place

@@ -5,15 +5,15 @@ use Rattle.sil_model.specs.declared.program.Flow.TheVariants.{Next}
 use Rattle.sil_model.specs.Access.{◌>>=◌}
 use Rattle.sil_model.specs.Effects.{Effect, goes}
 use Rattle.sil_model.specs.Lists.{all_written}
-use Rattle.sil_model.specs.Machine.{settle}
+use Rattle.sil_model.specs.Settling.{settle}
 use Rattle.sil_model.specs.Memory.{Memory, IsMemory}
-use Rattle.sil_model.specs.StackClauses.{moved}
+use Rattle.flow_clauses.specs.StackClauses.{moved}
 use Rattle.sil_model.specs.States.{State}
 use Rattle.sil_micro.specs.Expands.{Makes}
 use Rattle.sil_micro.specs.MicroStates.{Setting, Registers}
 use Rattle.sil_micro.specs.Pieces.{joined}
 use Rattle.exp_stack.specs.ListParts.{scatter_code, finish_code, moves_code}
-use Rattle.exp_stack.proofs.JoinedParts.{IsPart, both_parts}
+use Rattle.exp_common.proofs.JoinedParts.{IsPart, both_parts}
 use Rattle.exp_stack.proofs.ScratchWords.{HoldsAt, holds_below}
 use Rattle.exp_stack.proofs.GatherLoop.{gather_goes, gather_part, before_gather}
 use Rattle.exp_stack.proofs.ScatterLoop.{scatter_goes, scatter_part}

@@ -1,6 +1,5 @@
 pub mod Arithmetic
 pub mod ScratchWords
-pub mod JoinedParts
 pub mod StackPlaces
 pub mod Starts
 pub mod AddressLists

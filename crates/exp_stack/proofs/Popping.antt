@@ -4,16 +4,16 @@ use Rattle.std.specs.Prelude.{ℤ, pos, IfSome, int_lt, if◌then◌else◌}
 use Rattle.sil_macros.specs.declared.names.Macro.TheVariants.{Pop}
 use Rattle.sil_model.specs.declared.program.Arg.TheVariants.{Places}
 use Rattle.sil_model.specs.declared.program.Specials.{Specials}
-use Rattle.sil_model.specs.Costs.{visits}
+use Rattle.flow_clauses.specs.FlowTable.{flow_visits}
 use Rattle.sil_model.specs.Integers.{◌⊟◌}
-use Rattle.sil_model.specs.Machine.{settle}
-use Rattle.sil_model.specs.StackClauses.{below, cells_below, step_down, moved, pop, to_special}
+use Rattle.sil_model.specs.Settling.{settle}
+use Rattle.flow_clauses.specs.StackClauses.{below, cells_below, step_down, moved, pop, to_special}
 use Rattle.sil_model.specs.States.{State}
 use Rattle.sil_micro.specs.declared.op.Op.{Op}
 use Rattle.sil_micro.specs.Expands.{Does, IsPiece, Makes, at}
 use Rattle.sil_micro.specs.Pieces.{joined}
 use Rattle.exp_stack.specs.ListParts.{down_head, guard_code, places_code, line_code, moves_code}
-use Rattle.exp_stack.proofs.JoinedParts.{IsPart, both_parts, whole_piece}
+use Rattle.exp_common.proofs.JoinedParts.{IsPart, both_parts, whole_piece}
 use Rattle.exp_stack.proofs.ScratchWords.{holds_below}
 use Rattle.exp_stack.proofs.StackPlaces.{stack_of, bottom_is}
 use Rattle.exp_stack.proofs.Starts.{begun_at, down_first, down_goes, after_down, guard_goes, guard_inside, guard_light, guard_part, guard_weight}
@@ -45,7 +45,7 @@ module _ (k : ℕ) (specials : Specials) (ds : List ℤ) where
   pub pop_piece : (statements formats : ℕ) → IfSome specials.under (λ place. place < statements) → length ds ≤ 40 → IsPiece k statements formats false pop_code
   pop_piece statements formats among few = whole_piece (down_first k statements formats (length ds)) (rest_part statements formats among) (omega (arith, guard_light specials.under, few))
 
-  pub pop_does : length ds ≤ 40 → Does k pop_code specials (Places ds ∷ []) pop (visits Pop)
+  pub pop_does : length ds ≤ 40 → Does k pop_code specials (Places ds ∷ []) pop (flow_visits Pop)
   unfolding pop
   pop_does few g program parameters u h =
       let count = length ds in

@@ -4,16 +4,16 @@ use Rattle.std.specs.Prelude.{ℤ, pos, IfSome, int_lt, if◌then◌else◌}
 use Rattle.sil_macros.specs.declared.names.Macro.TheVariants.{Push}
 use Rattle.sil_model.specs.declared.program.Arg.TheVariants.{Places}
 use Rattle.sil_model.specs.declared.program.Specials.{Specials}
-use Rattle.sil_model.specs.Costs.{visits}
+use Rattle.flow_clauses.specs.FlowTable.{flow_visits}
 use Rattle.sil_model.specs.Integers.{◌⊞◌}
-use Rattle.sil_model.specs.Machine.{settle}
-use Rattle.sil_model.specs.StackClauses.{above, cells_above, moved, push, to_special}
+use Rattle.sil_model.specs.Settling.{settle}
+use Rattle.flow_clauses.specs.StackClauses.{above, cells_above, moved, push, to_special}
 use Rattle.sil_model.specs.States.{State}
 use Rattle.sil_micro.specs.declared.op.Op.{Op}
 use Rattle.sil_micro.specs.Expands.{Does, IsPiece, Makes, at}
 use Rattle.sil_micro.specs.Pieces.{joined}
 use Rattle.exp_stack.specs.ListParts.{up_head, guard_code, places_code, line_code, moves_code}
-use Rattle.exp_stack.proofs.JoinedParts.{IsPart, both_parts, whole_piece}
+use Rattle.exp_common.proofs.JoinedParts.{IsPart, both_parts, whole_piece}
 use Rattle.exp_stack.proofs.ScratchWords.{holds_below}
 use Rattle.exp_stack.proofs.StackPlaces.{last_of, last_is}
 use Rattle.exp_stack.proofs.Starts.{begun_at, up_first, up_goes, after_up, guard_goes, guard_inside, guard_light, guard_part, guard_weight}
@@ -45,7 +45,7 @@ module _ (k : ℕ) (specials : Specials) (ds : List ℤ) where
   pub push_piece : (statements formats : ℕ) → IfSome specials.over (λ place. place < statements) → length ds ≤ 40 → IsPiece k statements formats false push_code
   push_piece statements formats among few = whole_piece (up_first k statements formats (length ds)) (rest_part statements formats among) (omega (arith, guard_light specials.over, few))
 
-  pub push_does : length ds ≤ 40 → Does k push_code specials (Places ds ∷ []) push (visits Push)
+  pub push_does : length ds ≤ 40 → Does k push_code specials (Places ds ∷ []) push (flow_visits Push)
   unfolding push
   push_does few g program parameters u h =
       let count = length ds in

@@ -8,7 +8,7 @@ use Rattle.sil_model.specs.Access.{◌>>=◌, put_cell}
 use Rattle.sil_model.specs.Effects.{Effect}
 use Rattle.sil_model.specs.Integers.{wrapped_sum, wrapped_difference}
 use Rattle.sil_model.specs.Lists.{all_written}
-use Rattle.sil_model.specs.Machine.{settle}
+use Rattle.sil_model.specs.Settling.{settle}
 use Rattle.sil_model.specs.Memory.{Memory}
 use Rattle.sil_model.specs.States.{State, Step}
 use Rattle.sil_micro.specs.declared.op.Op.{Op}
@@ -18,7 +18,7 @@ use Rattle.sil_micro.specs.Pieces.{joined, is_part}
 use Rattle.sil_micro.proofs.Making.{by_option, more, by_way, then_part}
 use Rattle.exp_stack.specs.ListParts.{scatter_code}
 use Rattle.exp_stack.proofs.Arithmetic.{sub_one, add_pos}
-use Rattle.exp_stack.proofs.JoinedParts.{IsPart}
+use Rattle.exp_common.proofs.JoinedParts.{IsPart}
 use Rattle.exp_stack.proofs.ScratchWords.{HoldsAt, HoldsValues, AllFit, fits_word}
 
 pub scatter_part : (statements formats count : ℕ) → IsPart statements formats 220 (scatter_code count)

@@ -6,7 +6,7 @@ use Rattle.sil_model.specs.Access.{◌>>=◌, descr_at}
 use Rattle.sil_model.specs.Effects.{Effect}
 use Rattle.sil_model.specs.Integers.{◌⊞◌, wrapped_sum, wrapped_difference}
 use Rattle.sil_model.specs.Lists.{all_specs_read}
-use Rattle.sil_model.specs.Machine.{settle}
+use Rattle.sil_model.specs.Settling.{settle}
 use Rattle.sil_model.specs.Memory.{IsMemory}
 use Rattle.sil_model.specs.States.{State, Step}
 use Rattle.sil_micro.specs.declared.op.Op.{Op}
@@ -17,7 +17,7 @@ use Rattle.sil_micro.proofs.Fields.{f_again, v_again}
 use Rattle.sil_micro.proofs.Making.{by_option, more, by_way, then_part}
 use Rattle.exp_stack.specs.ListParts.{spec_gather_code}
 use Rattle.exp_stack.proofs.Arithmetic.{sub_one, add_pos}
-use Rattle.exp_stack.proofs.JoinedParts.{IsPart}
+use Rattle.exp_common.proofs.JoinedParts.{IsPart}
 use Rattle.exp_stack.proofs.ScratchWords.{HoldsAt, holds_below, fits_word, bind_assoc}
 use Rattle.exp_stack.proofs.SpecWords.{spec_below, with_spec, SpecsGathered, specs_none, specs_more}
 

@@ -5,16 +5,16 @@ use Rattle.sil_model.specs.declared.program.Flow.TheVariants.{Next}
 use Rattle.sil_model.specs.Access.{◌>>=◌}
 use Rattle.sil_model.specs.Effects.{Effect, goes}
 use Rattle.sil_model.specs.Lists.{all_specs_written}
-use Rattle.sil_model.specs.Machine.{settle}
+use Rattle.sil_model.specs.Settling.{settle}
 use Rattle.sil_model.specs.Memory.{Memory, IsMemory}
-use Rattle.sil_model.specs.StackClauses.{specs_moved}
+use Rattle.flow_clauses.specs.StackClauses.{specs_moved}
 use Rattle.sil_model.specs.States.{State}
 use Rattle.sil_micro.specs.Expands.{Makes}
 use Rattle.sil_micro.specs.MicroStates.{Setting, Registers}
 use Rattle.sil_micro.specs.Pieces.{joined, is_part}
 use Rattle.exp_stack.specs.ListParts.{spec_gather_code, spec_scatter_code, finish_code, spec_moves_code}
 use Rattle.exp_stack.proofs.CellMoves.{finish_part}
-use Rattle.exp_stack.proofs.JoinedParts.{IsPart, both_parts}
+use Rattle.exp_common.proofs.JoinedParts.{IsPart, both_parts}
 use Rattle.exp_stack.proofs.ScratchWords.{HoldsAt, holds_below}
 use Rattle.exp_stack.proofs.SpecGather.{spec_gather_goes, spec_gather_part, before_spec_gather}
 use Rattle.exp_stack.proofs.SpecScatter.{spec_scatter_goes, spec_scatter_part}

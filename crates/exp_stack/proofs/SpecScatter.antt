@@ -8,7 +8,7 @@ use Rattle.sil_model.specs.Access.{◌>>=◌, put_cell}
 use Rattle.sil_model.specs.Effects.{Effect}
 use Rattle.sil_model.specs.Integers.{◌⊞◌, within, wrapped_sum, wrapped_difference}
 use Rattle.sil_model.specs.Lists.{all_specs_written}
-use Rattle.sil_model.specs.Machine.{settle}
+use Rattle.sil_model.specs.Settling.{settle}
 use Rattle.sil_model.specs.Memory.{Memory}
 use Rattle.sil_model.specs.States.{State, Step}
 use Rattle.sil_micro.specs.declared.op.Op.{Op}
@@ -19,7 +19,7 @@ use Rattle.sil_micro.proofs.Fields.{fits_within}
 use Rattle.sil_micro.proofs.Making.{by_option, more, by_way, then_part}
 use Rattle.exp_stack.specs.ListParts.{spec_scatter_code}
 use Rattle.exp_stack.proofs.Arithmetic.{sub_one, add_pos}
-use Rattle.exp_stack.proofs.JoinedParts.{IsPart}
+use Rattle.exp_common.proofs.JoinedParts.{IsPart}
 use Rattle.exp_stack.proofs.ScratchWords.{HoldsAt, fits_word, bind_assoc}
 use Rattle.exp_stack.proofs.SpecWords.{HoldsSpecs, AllFitSpecs}
 

@@ -10,7 +10,7 @@ use Rattle.sil_model.specs.declared.program.Program.{Program}
 use Rattle.sil_model.specs.declared.program.Specials.{Specials}
 use Rattle.sil_model.specs.Integers.{◌⊟◌}
 use Rattle.sil_model.specs.Memory.{Memory}
-use Rattle.sil_model.specs.StackClauses.{last_cell}
+use Rattle.flow_clauses.specs.StackClauses.{last_cell}
 use Rattle.sil_micro.specs.Expands.{CanBegin}
 use Rattle.sil_micro.specs.MicroStates.{Setting, Micro}
 use Rattle.sil_micro.specs.Operations.{cell_address}

@@ -6,9 +6,9 @@ use Rattle.std.specs.Prelude.{ℤ, pos, IfSome, int_lt, nat_lt, nat_le, if◌the
 use Rattle.sil_base.specs.declared.places.TheConstants.{FIRST_CELL}
 use Rattle.sil_model.specs.Effects.{Effect}
 use Rattle.sil_model.specs.Integers.{◌⊞◌, ◌⊟◌, wrapped_sum, wrapped_difference, wrapped_product}
-use Rattle.sil_model.specs.Machine.{settle}
+use Rattle.sil_model.specs.Settling.{settle}
 use Rattle.sil_model.specs.Memory.{Memory, IsMemory}
-use Rattle.sil_model.specs.StackClauses.{above, below, step_down, to_special}
+use Rattle.flow_clauses.specs.StackClauses.{above, below, step_down, to_special}
 use Rattle.sil_model.specs.States.{State, Step}
 use Rattle.sil_micro.specs.declared.op.Op.{Op}
 use Rattle.sil_micro.specs.Expands.{Makes}
@@ -18,7 +18,7 @@ use Rattle.sil_micro.proofs.Making.{by_test, more, by_way, then_part}
 use Rattle.sil_micro.proofs.Parts.{part_joined}
 use Rattle.exp_stack.specs.ListParts.{up_head, down_head, guard_code}
 use Rattle.exp_stack.proofs.Arithmetic.{add_pos, difference_pos, times_size}
-use Rattle.exp_stack.proofs.JoinedParts.{IsFirst, IsPart}
+use Rattle.exp_common.proofs.JoinedParts.{IsFirst, IsPart}
 use Rattle.exp_stack.proofs.StackPlaces.{last_of, stack_of}
 
 -- the step of statement k is counted

@@ -1,3 +1,2 @@
 pub mod Group
-pub mod Allowed
 pub mod ListParts

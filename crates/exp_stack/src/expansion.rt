@@ -2,14 +2,13 @@
 ghost use Rattle.std.specs.Prelude.{◌≡◌, ◌*◌, ◌<◌, ◌≤◌, ◌∷◌, [], All, OnOk, IsTrue, length};
 ghost use Rattle.sil_macros.specs.MacroRows.{row};
 ghost use Rattle.sil_macros.specs.OperandPlaces.{DD, SS};
-ghost use Rattle.sil_model.specs.Costs.{visits};
+ghost use Rattle.flow_clauses.specs.FlowTable.{flow_visits, flow_clause};
 ghost use Rattle.sil_model.specs.Fits.{fit};
 ghost use Rattle.sil_model.specs.Prints.{writes_records};
-ghost use Rattle.sil_model.specs.Table.{clause};
 ghost use Rattle.sil_model.specs.declared.program.Arg.TheVariants.{Places};
 ghost use Rattle.sil_micro.specs.Expands.{Expands};
 ghost use Rattle.sil_micro.specs.Pieces.{weights};
-ghost use Rattle.exp_stack.specs.Allowed.{AreAmong, HasFewItems};
+ghost use Rattle.exp_common.specs.Allowed.{AreAmong, HasFewItems};
 ghost use Rattle.exp_stack.specs.Group.{is_stack};
 
 use crate::stack::{pop, push, spop, spush};
@@ -28,7 +27,7 @@ pub fn is_stack(name: Macro) -> bool
 
 /// Expands statement number `at`. After an error the code may have a part of the statement's
 /// operations.
-#[tactic(auto, unfolding(sil_model::specs::Table::clause))]
+#[tactic(auto, unfolding(flow_clauses::specs::FlowTable::flow_clause))]
 pub fn expand_stack(
     alloc: Global,
     statement: &Statement,
@@ -43,7 +42,7 @@ pub fn expand_stack(
     requires number { at < length code.old.entries }
     requires few { length code.old.entries ≤ MAX_STATEMENTS }
     requires light { weights code.old.ops ≤ MAX_PIECE_WEIGHT * at }
-    ensures { OnOk result (Expands code.old code.new at specials.now statement.now.args (clause statement.now.name) (visits statement.now.name) (writes_records statement.now.name)) }
+    ensures { OnOk result (Expands code.old code.new at specials.now statement.now.args (flow_clause statement.now.name) (flow_visits statement.now.name) (writes_records statement.now.name)) }
 {
     let _ = alloc;
     has_room(code, at);

@@ -1,11 +1,11 @@
 // The macros that move lists to the stack and from it, one function each.
 ghost use Rattle.std.specs.Prelude.{◌+◌, ◌<◌, ◌≤◌, ◌^◌, ◌∷◌, [], OnOk, false, length};
 ghost use Rattle.sil_macros.specs.declared.names.Macro.TheVariants.{Pop, Push, Spop, Spush};
-ghost use Rattle.sil_model.specs.Costs.{visits};
-ghost use Rattle.sil_model.specs.StackClauses.{pop, push, spop, spush};
+ghost use Rattle.flow_clauses.specs.FlowTable.{flow_visits};
+ghost use Rattle.flow_clauses.specs.StackClauses.{pop, push, spop, spush};
 ghost use Rattle.sil_model.specs.declared.program.Arg.TheVariants.{Places};
 ghost use Rattle.sil_micro.specs.Expands.{Expands};
-ghost use Rattle.exp_stack.specs.Allowed.{AreAmong};
+ghost use Rattle.exp_common.specs.Allowed.{AreAmong};
 
 use crate::addresses::{append_line, append_places};
 use crate::heads::{append_down, append_guard, append_up};
@@ -21,7 +21,7 @@ pub fn push(code: &mut Code, k: u32, specials: &Specials, places: &[i64]) -> Res
     requires room { length code.old.ops + 1500 < 2 ^ 32 }
     requires few { length places.now ≤ 40 }
     requires among { AreAmong (length code.old.entries) specials.now }
-    ensures { OnOk result (Expands code.old code.new k specials.now (Places places.now ∷ []) push (visits Push) false) }
+    ensures { OnOk result (Expands code.old code.new k specials.now (Places places.now ∷ []) push (flow_visits Push) false) }
 {
     let count = places.len() as u32;
     code.begin_statement(k);
@@ -39,7 +39,7 @@ pub fn pop(code: &mut Code, k: u32, specials: &Specials, places: &[i64]) -> Resu
     requires room { length code.old.ops + 1500 < 2 ^ 32 }
     requires few { length places.now ≤ 40 }
     requires among { AreAmong (length code.old.entries) specials.now }
-    ensures { OnOk result (Expands code.old code.new k specials.now (Places places.now ∷ []) pop (visits Pop) false) }
+    ensures { OnOk result (Expands code.old code.new k specials.now (Places places.now ∷ []) pop (flow_visits Pop) false) }
 {
     let count = places.len() as u32;
     code.begin_statement(k);
@@ -57,7 +57,7 @@ pub fn spush(code: &mut Code, k: u32, specials: &Specials, places: &[i64]) -> Re
     requires room { length code.old.ops + 1500 < 2 ^ 32 }
     requires few { length places.now ≤ 40 }
     requires among { AreAmong (length code.old.entries) specials.now }
-    ensures { OnOk result (Expands code.old code.new k specials.now (Places places.now ∷ []) spush (visits Spush) false) }
+    ensures { OnOk result (Expands code.old code.new k specials.now (Places places.now ∷ []) spush (flow_visits Spush) false) }
 {
     let count = places.len() as u32;
     code.begin_statement(k);
@@ -76,7 +76,7 @@ pub fn spop(code: &mut Code, k: u32, specials: &Specials, places: &[i64]) -> Res
     requires room { length code.old.ops + 1500 < 2 ^ 32 }
     requires few { length places.now ≤ 40 }
     requires among { AreAmong (length code.old.entries) specials.now }
-    ensures { OnOk result (Expands code.old code.new k specials.now (Places places.now ∷ []) spop (visits Spop) false) }
+    ensures { OnOk result (Expands code.old code.new k specials.now (Places places.now ∷ []) spop (flow_visits Spop) false) }
 {
     let count = places.len() as u32;
     code.begin_statement(k);

@@ -2,12 +2,14 @@
 use Rattle.std.proofs.Common.{◌≡◌, ℕ, zero, suc, append-nil, ◌+◌, ◌-◌, ◌<◌, ◌≤◌, List, [], ◌∷◌, ◌++◌, length, take, drop, get_or, set, Option, Some, None, refl, sym, ap, ◌∙◌, arith, append_assoc}
 use Rattle.std.proofs.Math.Seq.{drop-cons}
 use Rattle.std.proofs.lemmas.List.{take_more_set}
-use Rattle.std.specs.Prelude.{ℤ, pos, option_map}
+use Rattle.std.specs.Prelude.{ℤ, pos, option_map, map}
+use Rattle.sil_format.specs.declared.value.Value.{Value}
+use Rattle.sil_format.specs.declared.value.Value.TheVariants.{Number}
 use Rattle.layout_params.specs.declared.cell.Descr.{Descr}
 use Rattle.sil_model.specs.declared.specifier.Specifier.{Specifier}
-use Rattle.sil_model.specs.Access.{◌>>=◌, descr_at, set_descr_at}
+use Rattle.sil_model.specs.Access.{◌>>=◌, a_at, descr_at, set_descr_at}
 use Rattle.sil_model.specs.Integers.{◌⊞◌}
-use Rattle.sil_model.specs.Lists.{all_read, all_written, all_specs_read, all_specs_written, line}
+use Rattle.sil_model.specs.Lists.{all_a_read, all_read, all_written, all_specs_read, all_specs_written, line}
 use Rattle.sil_model.specs.Memory.{Memory}
 use Rattle.sil_model.specs.Specifiers.{spec_at, set_spec_at}
 
@@ -110,6 +112,26 @@ all_read_none m = refl
 pub all_read_more : (m : Memory) (at : ℤ) (ats : List ℤ) → all_read m (at ∷ ats) ≡ (descr_at m at >>= (λ d. all_read m ats >>= (λ ds. Some (d ∷ ds))))
 unfolding all_read
 all_read_more m at ats = refl
+
+-- the A field at a place as a value, and those at all of them
+abbrev pub value_at : Memory → ℤ → Option Value
+value_at m at = option_map Number (a_at m at)
+
+abbrev pub all_values_read : Memory → List ℤ → Option (List Value)
+all_values_read m ats = option_map (map Number) (all_a_read m ats)
+
+pub all_values_none : (m : Memory) → all_values_read m [] ≡ Some []
+unfolding all_a_read
+all_values_none m = refl
+
+value_more : (o : Option ℤ) (rest : Option (List ℤ)) → option_map (map Number) (o >>= (λ a. rest >>= (λ more. Some (a ∷ more)))) ≡ (option_map Number o >>= (λ x. option_map (map Number) rest >>= (λ xs. Some (x ∷ xs))))
+value_more None rest = refl
+value_more (Some a) None = refl
+value_more (Some a) (Some more) = refl
+
+pub all_values_more : (m : Memory) (at : ℤ) (ats : List ℤ) → all_values_read m (at ∷ ats) ≡ (value_at m at >>= (λ x. all_values_read m ats >>= (λ xs. Some (x ∷ xs))))
+unfolding all_a_read
+all_values_more m at ats = value_more (a_at m at) (all_a_read m ats)
 
 pub all_written_none : (m : Memory) (ds : List Descr) → all_written m [] ds ≡ Some m
 unfolding all_written

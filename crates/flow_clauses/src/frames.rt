@@ -1,11 +1,10 @@
 // Frames of calls.
 ghost use Rattle.std.specs.Prelude.{◌≡◌, ◌+◌, ◌≤◌, ◌∷◌, length, All};
-ghost use Rattle.sil_model.specs.Access.{written};
-ghost use Rattle.sil_model.specs.DescriptorClauses.{integer_alone};
+ghost use Rattle.sil_model.specs.Access.{written, integer_alone};
 ghost use Rattle.sil_model.specs.Integers.{◌⊞◌};
 ghost use Rattle.sil_model.specs.Lists.{all_written, line};
 ghost use Rattle.sil_model.specs.Memory.{FitsDescr, SameShape};
-ghost use Rattle.sil_model.specs.StackClauses.{step_up};
+ghost use Rattle.flow_clauses.specs.StackClauses.{step_up};
 
 use crate::lists::{line, write_all};
 use crate::stack::{step_up, sum};

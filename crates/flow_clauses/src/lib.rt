@@ -8,8 +8,8 @@ mod lists;
 mod specifiers;
 mod stack;
 
-pub use flow::{branch, hand_back, load, nth_location, selbra};
+pub use flow::{branch, endex, hand_back, load, nth_location, selbra};
 pub use frames::write_frame;
-pub use lists::{carry, read_all};
+pub use lists::{carry, read_all, read_values};
 pub use specifiers::carry_specs;
 pub use stack::{above, below, cells_above, cells_below, specs_above, specs_below};

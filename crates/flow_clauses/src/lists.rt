@@ -1,13 +1,15 @@
 // Lists of places whose descriptors are read and written.
-ghost use Rattle.std.specs.Prelude.{◌≡◌, ◌≤◌, length, take, All, IfSome, option_map};
-ghost use Rattle.sil_model.specs.Access.{written};
-ghost use Rattle.sil_model.specs.Lists.{all_read, all_written, line};
+ghost use Rattle.std.specs.Prelude.{◌≡◌, ◌≤◌, length, take, map, All, IfSome, option_map};
+ghost use Rattle.sil_model.specs.Access.{a_at, written};
+ghost use Rattle.sil_format.specs.declared.value.Value.TheVariants.{Number};
+ghost use Rattle.sil_model.specs.Lists.{all_a_read, all_read, all_written, line};
 ghost use Rattle.sil_model.specs.Memory.{FitsDescr, SameShape};
 ghost use Rattle.flow_clauses.specs.Carried.{carried};
 
 use layout_params::Descr;
 use sil_base::MAX_LIST_ITEMS;
-use sil_model::Cells;
+use sil_format::Value;
+use sil_model::{Cells, a_field};
 
 /// So many addresses, each a step on from the one before.
 #[tactic(auto, using(crate::proofs::Turns::lines))]
@@ -33,6 +35,25 @@ pub fn read_all(cells: &Cells, places: &[i64]) -> Option<[Descr; MAX_LIST_ITEMS]
     let mut values = [Descr { a: 0, f: 0, v: 0 }; MAX_LIST_ITEMS];
     for (i, place) in places.iter().enumerate() {
         values[i] = cells.descr(*place)?;
+    }
+    Some(values)
+}
+
+/// The A field at a place, as a value of a format.
+fn value(cells: &Cells, at: i64) -> Option<Value>
+    ensures { result ≡ option_map Number (a_at cells.now at) }
+{
+    Some(Value::Number(a_field(cells, at)?))
+}
+
+/// The A fields at the places, as values of a format.
+pub fn read_values(cells: &Cells, places: &[i64]) -> Option<[Value; MAX_LIST_ITEMS]>
+    requires { length places.now ≤ MAX_LIST_ITEMS }
+    ensures { option_map (map Number) (all_a_read cells.now places.now) ≡ option_map (take (length places.now)) result }
+{
+    let mut values = [Value::Number(0); MAX_LIST_ITEMS];
+    for (i, place) in places.iter().enumerate() {
+        values[i] = value(cells, *place)?;
     }
     Some(values)
 }

@@ -2,7 +2,7 @@
 ghost use Rattle.std.specs.Prelude.{◌≡◌, ◌≤◌, take};
 ghost use Rattle.sil_model.specs.Integers.{◌⊞◌};
 ghost use Rattle.sil_model.specs.Lists.{line};
-ghost use Rattle.sil_model.specs.StackClauses.{above, below, step_down, step_up};
+ghost use Rattle.flow_clauses.specs.StackClauses.{above, below, step_down, step_up};
 
 use crate::lists::line;
 use sil_base::MAX_LIST_ITEMS;

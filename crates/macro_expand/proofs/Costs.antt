@@ -7,16 +7,18 @@ use Rattle.layout_params.specs.Parameters.{Parameters}
 use Rattle.sil_macros.specs.declared.names.Macro.TheVariants.{Rrturn}
 use Rattle.sil_model.specs.declared.program.Program.{Program}
 use Rattle.sil_model.specs.declared.program.Statement.{Statement}
-use Rattle.sil_model.specs.CallClauses.{rrturn}
-use Rattle.sil_model.specs.Costs.{cost, weight, visits}
-use Rattle.sil_model.specs.Machine.{make_step, settle}
+use Rattle.flow_clauses.specs.CallClauses.{rrturn}
+use Rattle.sil_runs.specs.Costs.{cost, weight, visits}
+use Rattle.sil_runs.specs.Machine.{make_step}
+use Rattle.sil_model.specs.Settling.{settle}
 use Rattle.sil_model.specs.Sites.{Site}
 use Rattle.sil_model.specs.States.{State, Step, Goes}
-use Rattle.sil_model.specs.Table.{clause}
-use Rattle.sil_model.specs.Valid.{IsSteady, IsValid}
+use Rattle.sil_runs.specs.Table.{clause}
+use Rattle.sil_runs.specs.StepLaws.{IsSteady}
+use Rattle.sil_model.specs.Valid.{IsValid}
 use Rattle.sil_model.specs.WellFormed.{IsWellFormed}
 use Rattle.sil_micro.specs.Codes.{MicroCode, setting_of}
-use Rattle.sil_micro.specs.Expands.{CanBegin, Does, Meets, at, cost_at, site_at}
+use Rattle.sil_micro.specs.Expands.{CanBegin, Meets, at, cost_at, site_at}
 use Rattle.sil_micro.specs.Laws.{LawOfMeeting, LawOnWays, Leads, way_met}
 use Rattle.sil_micro.specs.MicroStates.{Setting, Micro}
 use Rattle.sil_micro.specs.MicroWays.{Way, Returned, way}
@@ -24,6 +26,7 @@ use Rattle.sil_micro.specs.MicroWays as ways
 use Rattle.sil_micro.proofs.Making.{by_test}
 use Rattle.exp_calls.specs.CallHalves.{DoesReturn, MeetsReturn}
 use Rattle.exp_calls.specs.Group.{is_return}
+use Rattle.exp_units.specs.InFormats.{DoesIn}
 use Rattle.macro_expand.specs.Expanded.{DoesStep, HasPiece, IsExpansion}
 use Rattle.macro_expand.specs.Steps.{MakesStep}
 use Rattle.macro_expand.proofs.Entering as entering
@@ -95,8 +98,8 @@ module _ (program : Program) (parameters : Parameters) (c : MicroCode) (x : IsEx
       by_itself : u.state.steps < n → is_return statement.name ≡ false → MakesStep g c k u (make_step program parameters statement s) (cost program parameters statement s)
       unfolding make_step cost weight
       by_itself left other =
-          let does : Does k p.piece program.specials statement.args (clause statement.name) (visits statement.name) = subst (λ b. DoesStep b k p.piece program.specials statement.name statement.args) other p.does in
-          let d = does g program parameters u begins in
+          let does : DoesIn c.formats k p.piece program.specials statement.args (clause statement.name) (visits statement.name) = subst (λ b. DoesStep b c.formats k p.piece program.specials statement.name statement.args) other p.does in
+          let d = does g program parameters u begins refl in
           made d.fuel (way g (k + 1) p.piece d.fuel 0 u) (make_step program parameters statement s) (cost_at statement.args (visits statement.name) site s) refl d.meets (stays left)
 
       same_step : statement.name ≡ Rrturn → make_step program parameters statement s ≡ step
@@ -110,7 +113,7 @@ module _ (program : Program) (parameters : Parameters) (c : MicroCode) (x : IsEx
       by_call : u.state.steps < n → is_return statement.name ≡ true → MakesStep g c k u (make_step program parameters statement s) (cost program parameters statement s)
       by_call left back =
           let name = return_alone statement.name back in
-          let does : DoesReturn k p.piece program.specials statement.args = subst (λ b. DoesStep b k p.piece program.specials statement.name statement.args) back p.does in
+          let does : DoesReturn k p.piece program.specials statement.args = subst (λ b. DoesStep b c.formats k p.piece program.specials statement.name statement.args) back p.does in
           let d = does g program parameters u begins in
           let within = λ (t : State) (is : step ≡ Goes t). stays left t (same_step name ∙ is) in
           subst (λ m. MakesStep g c k u (make_step program parameters statement s) m) (sym (same_cost name))

@@ -5,7 +5,7 @@ use Rattle.std.proofs.lemmas.Option.{slice_get_read}
 use Rattle.std.specs.Prelude.{get_or, slice_get, if◌then◌else◌}
 use Rattle.sil_model.specs.declared.program.Program.{Program}
 use Rattle.sil_model.specs.declared.program.Statement.{Statement}
-use Rattle.sil_model.specs.CallClauses.{is_rcall}
+use Rattle.flow_clauses.specs.CallClauses.{is_rcall}
 use Rattle.sil_model.specs.Prints.{writes_records, IsSilent}
 use Rattle.sil_micro.specs.declared.op.Op.{Op}
 use Rattle.sil_micro.specs.declared.op.Op.TheVariants.{Begin, Jump, JumpIf}
@@ -73,7 +73,7 @@ pub record Stands (c : MicroCode) (program : Program) (i k : ℕ) (statement : S
   pub each : (j : ℕ) (op : Op) → slice_get piece j ≡ Some op → slice_get c.ops (base + j) ≡ Some (placed_op base op)
   pub follows : place_so_far c i (k + 1) ≡ Some (base + length piece)
   pub is_piece : IsPiece k (length c.entries) (length c.formats) (writes_records statement.name) piece
-  pub does : DoesStep (is_return statement.name) k piece program.specials statement.name statement.args
+  pub does : DoesStep (is_return statement.name) c.formats k piece program.specials statement.name statement.args
   pub returns : HasReturns (is_rcall statement.name) c k base piece statement.args
 
 pub record SoFar (program : Program) (i : ℕ) (c : MicroCode) : Type 0 where

@@ -1,3 +1,4 @@
+mod Groups
 mod Growing
 mod Stepping
 mod Whole

@@ -1,16 +1,20 @@
--- The locations and the lists of a well formed program's statements, and its special symbols.
-use Rattle.std.proofs.Common.{◌≡◌, ℕ, ◌<◌, List, Option, Some, None, length, subst, sym}
-use Rattle.std.specs.Prelude.{All, IfSome, slice_get, slice_index_or}
+-- The locations, the lists and the formats of a well formed program's statements, and its special symbols.
+use Rattle.std.proofs.Common.{◌≡◌, ℕ, ◌<◌, ◌≤◌, ◌^◌, List, [], ◌∷◌, ◌++◌, Option, Some, None, length, length-append, subst, sym, ap, arith}
+use Rattle.std.proofs.lemmas.List.Elements.{All-head, All-tail}
+use Rattle.std.specs.Prelude.{All, IfSome, slice_get, slice_index_or, sum_by}
 use Rattle.layout_params.specs.Parameters.{Settings}
+use Rattle.std.proofs.lemmas.List.Sums.{sum_by-cons}
+use Rattle.sil_format.specs.FormatGrammar.{IsFormat}
 use Rattle.sil_model.specs.declared.program.Arg.{Arg}
-use Rattle.sil_model.specs.declared.program.Arg.TheVariants.{Goto, Gotos, Places}
+use Rattle.sil_model.specs.declared.program.Arg.TheVariants.{Format, Goto, Gotos, Places}
 use Rattle.sil_model.specs.declared.program.Program.{Program}
 use Rattle.sil_model.specs.declared.program.Statement.{Statement}
 use Rattle.sil_model.proofs.Keeps.{all_at}
 use Rattle.sil_model.specs.Fits.{Bounds, bounds_of, FitsRow, IsStatement, IsWithin}
-use Rattle.sil_model.specs.WellFormed.{AreSpecials}
-use Rattle.exp_choices.specs.Locations.{IsAmong, LocatesWithin}
-use Rattle.exp_stack.specs.Allowed.{AreAmong, HasFewItems}
+use Rattle.sil_model.specs.WellFormed.{AreSpecials, IsWellFormed}
+use Rattle.exp_common.specs.Locations.{IsAmong, LocatesWithin}
+use Rattle.exp_common.specs.Allowed.{AreAmong, HasFewItems}
+use Rattle.exp_units.specs.InFormats.{HasFormat}
 
 among : (b : Bounds) (location : Option ℕ) → IsStatement b location → IsAmong b.statements location
 among b None h = h
@@ -48,3 +52,29 @@ specials_among program settings count h e =
       over = subst (λ n. IfSome program.specials.over (λ k. k < n)) (sym e) h.over;
       under = subst (λ n. IfSome program.specials.under (λ k. k < n)) (sym e) h.under;
     }
+
+-- ---- formats
+
+has_format : (b : Bounds) (arg : Arg) → IsWithin b arg → HasFormat b.formats arg
+has_format b (Format text) h = h
+has_format b _ h = tt
+
+-- those of the statement of a number
+pub formats_there : (program : Program) (settings : Settings) (k : ℕ) (formats : List (List ℕ)) (statement : Statement) → All (FitsRow (bounds_of program settings)) program.statements → slice_get program.statements k ≡ Some statement → formats ≡ program.formats → All (HasFormat formats) statement.args
+formats_there program settings k formats statement rows is e =
+    let h = (all_at (FitsRow (bounds_of program settings)) program.statements k statement rows is).within in
+    subst (λ l. All (HasFormat l) statement.args) (sym e) (λ i d lt. has_format (bounds_of program settings) (slice_index_or statement.args i d) (h i d lt))
+
+-- a format has brackets
+has_bytes : (bytes : List ℕ) → IsFormat bytes → 1 ≤ length bytes
+has_bytes bytes h =
+    let s = h.1 in
+    omega (arith, ap length s.3, length-append s.0 (40 ∷ (s.1 ++ 41 ∷ s.2)))
+
+no_more : (formats : List (List ℕ)) → All IsFormat formats → length formats ≤ sum_by length formats
+no_more [] h = omega arith
+no_more (bytes ∷ formats) h = omega (arith, has_bytes bytes (All-head IsFormat bytes formats h), no_more formats (All-tail IsFormat bytes formats h), sum_by-cons (length {A = ℕ}) bytes formats)
+
+-- they can be numbered
+pub few_formats : (program : Program) (settings : Settings) (formats : List (List ℕ)) → IsWellFormed program settings → formats ≡ program.formats → length formats < 2 ^ 32
+few_formats program settings formats h e = omega (arith, ap length e, no_more program.formats h.formats, h.format_bytes)

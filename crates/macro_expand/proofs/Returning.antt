@@ -8,8 +8,8 @@ use Rattle.sil_model.specs.declared.end.End.TheVariants as ends
 use Rattle.sil_model.specs.declared.program.Program.{Program}
 use Rattle.sil_model.specs.declared.program.Statement.{Statement}
 use Rattle.sil_model.specs.Access.{◌>>=◌}
-use Rattle.sil_model.specs.CallClauses.{call_at, entered, if_rcall, is_rcall, rrturn, statement_of}
-use Rattle.sil_model.specs.Machine.{settle}
+use Rattle.flow_clauses.specs.CallClauses.{call_at, if_rcall, is_rcall, rrturn, statement_of}
+use Rattle.sil_model.specs.Settling.{settle}
 use Rattle.sil_model.specs.Memory.{IsMemory}
 use Rattle.sil_model.specs.Sites.{Site}
 use Rattle.sil_model.specs.States.{State, Step, Goes}
@@ -18,7 +18,7 @@ use Rattle.sil_model.specs.WellFormed.{IsWellFormed}
 use Rattle.sil_micro.specs.Codes.{MicroCode, return_of}
 use Rattle.sil_micro.specs.Expands.{Meets, at, site_at}
 use Rattle.sil_micro.specs.Laws.{LawOfMeeting, LawOnWays, Leads}
-use Rattle.sil_micro.specs.Operations.{entered_statement}
+use Rattle.sil_model.specs.Entries.{entered_statement}
 use Rattle.sil_micro.specs.MicroRuns.{Ended, at_return, return_place}
 use Rattle.sil_micro.specs.MicroStates.{Setting, Micro}
 use Rattle.sil_micro.specs.MicroWays.{way}
@@ -29,11 +29,6 @@ use Rattle.macro_expand.specs.Expanded.{Answers, HasPiece, HasReturns, IsExpansi
 use Rattle.macro_expand.specs.Steps.{Makes}
 use Rattle.macro_expand.proofs.Entering as entering
 use Rattle.macro_expand.proofs.Entering.{Arrives, leads_then, makes_within}
-
-same_entered : (size count : ℕ) (n : ℤ) → entered size count n ≡ entered_statement size count n
-unfolding entered entered_statement
-same_entered size count (pos n) = refl
-same_entered size count (negsuc n) = refl
 
 entered_below : (size count : ℕ) (n : ℤ) (k : ℕ) → entered_statement size count n ≡ Some k → k < count
 unfolding entered_statement
@@ -74,7 +69,6 @@ module _ (program : Program) (parameters : Parameters) (c : MicroCode) (x : IsEx
           ap (λ m. entered_statement m.limits.cell_size (length c.entries) entry) same_memory
           ∙ ap (λ l. entered_statement l.cell_size (length c.entries) entry) valid.limits
           ∙ ap (λ i. entered_statement parameters.settings.sizes.descr i entry) x.statements
-          ∙ sym (same_entered parameters.settings.sizes.descr (length program.statements) entry)
 
       -- no return part is there
       ends_here : return_place c v entry ≡ None → rrturn site s ≡ None → IsMade

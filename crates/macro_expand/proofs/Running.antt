@@ -10,12 +10,13 @@ use Rattle.sil_model.specs.declared.end.End.{End}
 use Rattle.sil_model.specs.declared.end.End.TheVariants as ends
 use Rattle.sil_model.specs.declared.program.Program.{Program}
 use Rattle.sil_model.specs.declared.program.Statement.{Statement}
-use Rattle.sil_model.specs.Costs.{cost}
-use Rattle.sil_model.specs.Machine.{after_step, ended, make_step, meet, with_statement}
-use Rattle.sil_model.specs.Machine as machine_of
+use Rattle.sil_runs.specs.Costs.{cost}
+use Rattle.sil_runs.specs.Machine.{after_step, ended, make_step, meet, with_statement}
+use Rattle.sil_runs.specs.Machine as machine_of
 use Rattle.sil_model.specs.Start.{first_state}
 use Rattle.sil_model.specs.States.{State, Step, Goes, Ends}
-use Rattle.sil_model.specs.Valid.{IsSteady, IsValid}
+use Rattle.sil_runs.specs.StepLaws.{IsSteady}
+use Rattle.sil_model.specs.Valid.{IsValid}
 use Rattle.sil_model.specs.WellFormed.{IsWellFormed}
 use Rattle.sil_micro.specs.Codes.{MicroCode, place_of, setting_of}
 use Rattle.sil_micro.specs.Expands.{at}

@@ -8,22 +8,23 @@ use Rattle.sil_macros.specs.declared.names.Macro.TheVariants.{Rcall}
 use Rattle.sil_model.specs.declared.program.Arg.{Arg}
 use Rattle.sil_model.specs.declared.program.Program.{Program}
 use Rattle.sil_model.specs.declared.program.Statement.{Statement}
-use Rattle.sil_model.specs.CallClauses.{is_rcall, rcall}
-use Rattle.sil_model.specs.Costs.{visits}
+use Rattle.flow_clauses.specs.CallClauses.{is_rcall, rcall}
+use Rattle.sil_runs.specs.Costs.{visits}
 use Rattle.sil_model.specs.Prints.{writes_records, IsSilent}
-use Rattle.sil_model.specs.Table.{clause}
+use Rattle.sil_runs.specs.Table.{clause}
 use Rattle.sil_model.proofs.Keeps.{all_at}
 use Rattle.sil_model.proofs.Places.{set_here, set_there}
 use Rattle.sil_micro.specs.declared.op.Op.{Op}
 use Rattle.sil_micro.specs.declared.op.Op.TheVariants.{Begin}
 use Rattle.sil_micro.specs.Codes.{MicroCode, appended, begun, entry_of, return_of, told, op_leads}
-use Rattle.sil_micro.specs.Expands.{Does, Expands, IsPiece}
+use Rattle.sil_micro.specs.Expands.{Does, IsPiece}
 use Rattle.sil_micro.specs.Forms.{all_ops}
 use Rattle.sil_micro.specs.Pieces.{placed, placed_op, fits_part, is_quiet, names_within, weights}
 use Rattle.sil_micro.proofs.Making.{by_test}
 use Rattle.sil_micro.proofs.Parts.{all_alike, all_append, length_placed, weights_append, weights_placed}
 use Rattle.exp_calls.specs.CallHalves.{ExpandsCall, ExpandsReturn}
 use Rattle.exp_calls.specs.Group.{is_return}
+use Rattle.exp_units.specs.InFormats.{DoesIn, ExpandsIn}
 use Rattle.macro_expand.specs.Expanded.{DoesStep, HasReturns, IsExpandedTo}
 use Rattle.macro_expand.proofs.Growing.{get_left, get_front, get_right, get_placed, begin_placed, first_begin, all_longer, part_leads, names_placed, quiet_placed, quiet_piece, place_so_far, Stands, SoFar}
 use Rattle.macro_expand.proofs.Halves.{clause_of_call, rcall_alone, return_alone}
@@ -197,7 +198,7 @@ module _ (program : Program) (i : ℕ) (c : MicroCode) (before : SoFar program i
   -- the piece does what the statement's is to do
   pub record IsFor (statement : Statement) : Type 0 where
     pub says : prints ≡ writes_records statement.name
-    pub does : DoesStep (is_return statement.name) i piece program.specials statement.name statement.args
+    pub does : DoesStep (is_return statement.name) c.formats i piece program.specials statement.name statement.args
     pub returns : return_of next i ≡ marked_at back c → HasReturns (is_rcall statement.name) next i (length c.ops) piece statement.args
 
   latest : (statement : Statement) → IsFor statement → Stands next program (i + 1) i statement
@@ -239,12 +240,12 @@ module _ (program : Program) (i : ℕ) (c : MicroCode) (before : SoFar program i
 
 -- a statement's expansion is one statement more
 module _ (program : Program) (i : ℕ) (old new : MicroCode) (statement : Statement) (before : SoFar program i old) (here : i < length program.statements) (is : slice_get program.statements i ≡ Some statement) where
-  by_itself : is_rcall statement.name ≡ false → is_return statement.name ≡ false → Expands old new i program.specials statement.args (clause statement.name) (visits statement.name) (writes_records statement.name) → SoFar program (i + 1) new
+  by_itself : is_rcall statement.name ≡ false → is_return statement.name ≡ false → ExpandsIn old new i program.specials statement.args (clause statement.name) (visits statement.name) (writes_records statement.name) → SoFar program (i + 1) new
   by_itself call return x =
       subst (λ c. SoFar program (i + 1) c) (sym x.stands)
       (one_more program i old before here x.piece None tt (writes_records statement.name) x.is_piece statement is (record {
         says = refl;
-        does = subst (λ b. DoesStep b i x.piece program.specials statement.name statement.args) (sym return) x.does;
+        does = subst (λ b. DoesStep b old.formats i x.piece program.specials statement.name statement.args) (sym return) x.does;
         returns = λ none. subst (λ b. HasReturns b (appended (begun i old) x.piece) i (length old.ops) x.piece statement.args) (sym call) none;
       }))
 
@@ -253,14 +254,14 @@ module _ (program : Program) (i : ℕ) (old new : MicroCode) (statement : Statem
       subst (λ c. SoFar program (i + 1) c) (sym x.stands)
       (one_more program i old before here x.piece None tt false x.is_piece statement is (record {
         says = sym (ap (λ name. writes_records name) (return_alone statement.name return));
-        does = subst (λ b. DoesStep b i x.piece program.specials statement.name statement.args) (sym return) x.does;
+        does = subst (λ b. DoesStep b old.formats i x.piece program.specials statement.name statement.args) (sym return) x.does;
         returns = λ none. subst (λ b. HasReturns b (appended (begun i old) x.piece) i (length old.ops) x.piece statement.args) (sym call) none;
       }))
 
-  call_does : (piece : List Op) → statement.name ≡ Rcall → Does i piece program.specials statement.args rcall (visits Rcall) → DoesStep (is_return statement.name) i piece program.specials statement.name statement.args
+  call_does : (piece : List Op) → statement.name ≡ Rcall → Does i piece program.specials statement.args rcall (visits Rcall) → DoesStep (is_return statement.name) old.formats i piece program.specials statement.name statement.args
   call_does piece e does =
-      subst (λ name. DoesStep (is_return name) i piece program.specials name statement.args) (sym e)
-      (subst (λ f. Does i piece program.specials statement.args f (visits Rcall)) (sym clause_of_call) does)
+      subst (λ name. DoesStep (is_return name) old.formats i piece program.specials name statement.args) (sym e)
+      (subst (λ f. DoesIn old.formats i piece program.specials statement.args f (visits Rcall)) (sym clause_of_call) (λ g program parameters u h same. does g program parameters u h))
 
   by_call : is_rcall statement.name ≡ true → ExpandsCall old new i program.specials statement.args → SoFar program (i + 1) new
   by_call call x =

@@ -4,8 +4,8 @@ use Rattle.sil_base.specs.declared.limits.TheConstants.{MAX_STEPS}
 use Rattle.layout_params.specs.Parameters.{Parameters}
 use Rattle.sil_model.specs.declared.program.Program.{Program}
 use Rattle.sil_model.specs.declared.program.Statement.{Statement}
-use Rattle.sil_model.specs.Costs.{cost}
-use Rattle.sil_model.specs.Machine.{make_step}
+use Rattle.sil_runs.specs.Costs.{cost}
+use Rattle.sil_runs.specs.Machine.{make_step}
 use Rattle.sil_model.specs.States.{Step, Goes, Ends}
 use Rattle.sil_model.specs.Valid.{IsValid}
 use Rattle.sil_micro.specs.Codes.{MicroCode, place_of, setting_of}

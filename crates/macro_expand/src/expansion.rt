@@ -1,18 +1,19 @@
 // The expansion of all statements of a program.
-ghost use Rattle.std.specs.Prelude.{◌≡◌, ◌*◌, ◌<◌, ◌≤◌, All, IfOk, OnOk, IsTrue, length, map};
+ghost use Rattle.std.specs.Prelude.{◌≡◌, ◌*◌, ◌<◌, ◌≤◌, ◌^◌, All, IfOk, OnOk, IsTrue, length, map};
 ghost use Rattle.sil_macros.specs.MacroRows.{row};
-ghost use Rattle.sil_model.specs.CallClauses.{is_rcall};
-ghost use Rattle.sil_model.specs.Costs.{visits};
+ghost use Rattle.flow_clauses.specs.CallClauses.{is_rcall};
+ghost use Rattle.sil_runs.specs.Costs.{visits};
 ghost use Rattle.sil_model.specs.Fits.{fit};
 ghost use Rattle.sil_model.specs.Prints.{writes_records};
-ghost use Rattle.sil_model.specs.Table.{clause};
+ghost use Rattle.sil_runs.specs.Table.{clause};
 ghost use Rattle.sil_model.specs.WellFormed.{IsWellFormed};
 ghost use Rattle.sil_micro.specs.Expands.{Expands};
 ghost use Rattle.sil_micro.specs.Pieces.{weights};
 ghost use Rattle.exp_calls.specs.Group.{is_return};
-ghost use Rattle.exp_choices.specs.Locations.{LocatesWithin};
-ghost use Rattle.exp_stack.specs.Allowed.{AreAmong, HasFewItems};
-ghost use Rattle.macro_expand.specs.Expanded.{AreExpanded, IsExpandedTo, IsExpansion, RunsAsTheMachine, is_alone, is_expanded};
+ghost use Rattle.exp_common.specs.Locations.{LocatesWithin};
+ghost use Rattle.exp_common.specs.Allowed.{AreAmong, HasFewItems};
+ghost use Rattle.exp_units.specs.InFormats.{ExpandsIn, HasFormat};
+ghost use Rattle.macro_expand.specs.Expanded.{AreExpanded, IsExpandedTo, IsExpansion, RunsAsTheMachine, is_alone, is_expanded, is_here};
 ghost use Rattle.macro_expand.specs.Steps.{StepsWithinCosts};
 
 use exp_calls::{expand_call, expand_return, is_call, is_return};
@@ -21,10 +22,12 @@ use exp_control::{expand_control, is_control};
 use exp_descr::expand_descr;
 use exp_flow::{expand_flow, is_flow};
 use exp_stack::{expand_stack, is_stack};
+use exp_units::{expand_move, expand_output, is_move, is_output};
 use layout_params::Params;
 use sil_base::{MAX_STATEMENTS, Record};
 use sil_micro::{Code, MAX_PIECE_WEIGHT, law_on_ways};
-use sil_model::{Program, Specials, Statement, law_of_steps};
+use sil_model::{Program, Specials, Statement};
+use sil_runs::law_of_steps;
 use std::alloc::{AllocError, Global};
 
 /// The code of a program: its runs are the program's runs, and each statement's operations weigh no
@@ -65,6 +68,8 @@ fn expand(
     requires locations { All (LocatesWithin (length code.old.entries)) statement.now.args }
     requires items { All HasFewItems statement.now.args }
     requires among { AreAmong (length code.old.entries) specials.now }
+    requires formats { All (HasFormat code.old.formats) statement.now.args }
+    requires few_formats { length code.old.formats < 2 ^ 32 }
     requires number { at < length code.old.entries }
     requires few { length code.old.entries ≤ MAX_STATEMENTS }
     requires light { weights code.old.ops ≤ MAX_PIECE_WEIGHT * at }
@@ -75,11 +80,40 @@ fn expand(
     } else if is_return(statement.name) {
         expand_return(alloc, statement, at, specials, code)
     } else {
-        expand_alone(alloc, statement, at, specials, code)
+        expand_here(alloc, statement, at, specials, code)
     }
 }
 
 /// Expands a statement that neither calls nor returns.
+#[tactic(auto, using(crate::proofs::Groups::by_output))]
+fn expand_here(
+    alloc: Global,
+    statement: &Statement,
+    at: u32,
+    specials: &Specials,
+    code: &mut Code,
+) -> Result<(), AllocError>
+    requires group { IsTrue (is_here statement.now.name) }
+    requires fits { IsTrue (fit (row statement.now.name).places statement.now.args) }
+    requires locations { All (LocatesWithin (length code.old.entries)) statement.now.args }
+    requires items { All HasFewItems statement.now.args }
+    requires among { AreAmong (length code.old.entries) specials.now }
+    requires formats { All (HasFormat code.old.formats) statement.now.args }
+    requires few_formats { length code.old.formats < 2 ^ 32 }
+    requires number { at < length code.old.entries }
+    requires few { length code.old.entries ≤ MAX_STATEMENTS }
+    requires light { weights code.old.ops ≤ MAX_PIECE_WEIGHT * at }
+    ensures { OnOk result (ExpandsIn code.old code.new at specials.now statement.now.args (clause statement.now.name) (visits statement.now.name) (writes_records statement.now.name)) }
+{
+    if is_output(statement.name) {
+        expand_output(alloc, statement, at, specials, code)
+    } else {
+        expand_alone(alloc, statement, at, specials, code)
+    }
+}
+
+/// Expands a statement that neither calls nor returns, and names no format.
+#[tactic(auto, using(crate::proofs::Groups::groups))]
 fn expand_alone(
     alloc: Global,
     statement: &Statement,
@@ -105,6 +139,8 @@ fn expand_alone(
         expand_stack(alloc, statement, at, specials, code)
     } else if is_control(statement.name) {
         expand_control(alloc, statement, at, specials, code)
+    } else if is_move(statement.name) {
+        expand_move(alloc, statement, at, specials, code)
     } else {
         expand_descr(alloc, statement, at, specials, code)
     }

@@ -52,11 +52,11 @@ static REGIONS: [(u32, u64, CpuStep); 36] = [
 ];
 
 /// Where a call stands behind the numbers of nine registers.
-const CALL: u64 = 0x1_024c;
+pub const CALL: u64 = 0x1_024c;
 
-const CONSTANTS: u64 = 0x6800_0000;
+pub const CONSTANTS: u64 = 0x6800_0000;
 
-const SCRATCH: u64 = 0x6c00_0000;
+pub const SCRATCH: u64 = 0x6c00_0000;
 
 const ALL: u64 = 0xffff_ffff_ffff_ffff;
 
@@ -112,8 +112,8 @@ static BAD: [(u64, [u64; 6], u64); 20] = [
     (3, [6, CONSTANTS, 9, CONSTANTS, 2, 1], 0),
 ];
 
-/// The registers of a call. In x8 stands what an absent unit answers.
-fn registers(a7: u64, operands: &[u64; 6], s10: u64) -> [(u32, u64); 9] {
+/// The registers of a call, with what it answers in x8.
+pub fn registers(a7: u64, operands: &[u64; 6], s10: u64, answer: u64) -> [(u32, u64); 9] {
     let [a0, a1, a2, a3, a4, a5] = *operands;
     [
         (10, a0),
@@ -124,7 +124,7 @@ fn registers(a7: u64, operands: &[u64; 6], s10: u64) -> [(u32, u64); 9] {
         (15, a5),
         (17, a7),
         (26, s10),
-        (8, 4),
+        (8, answer),
     ]
 }
 
@@ -146,7 +146,7 @@ fn regions_are_loaded_and_stored_by_their_rights(rt: HostRuntime) -> Result<(), 
 fn calls_on_absent_units_answer_4_and_others_end(rt: HostRuntime) -> Result<(), Fail> {
     assert_eq!(rt; place_after(9), CALL);
     for (a7, operands, s10, answer) in &GOOD {
-        let registers = registers(*a7, operands, *s10);
+        let registers = registers(*a7, operands, *s10, 4);
         let end = end_after(rt.alloc(), &registers, &[0x0000_0073, 0x0005_0293])?;
         let expected = match answer {
             CpuStep::Next => lands(CALL + 8),
@@ -155,7 +155,7 @@ fn calls_on_absent_units_answer_4_and_others_end(rt: HostRuntime) -> Result<(), 
         assert_eq!(rt; end, expected, "{a7} {operands:?}");
     }
     for (a7, operands, s10) in &BAD {
-        let registers = registers(*a7, operands, *s10);
+        let registers = registers(*a7, operands, *s10, 4);
         let answer = answer_after(rt.alloc(), &registers, 0x0000_0073)?;
         let bad = CpuStep::Ended(CpuEnd::BadCall(CALL));
         assert_eq!(rt; answer, Some(bad), "{a7} {operands:?}");

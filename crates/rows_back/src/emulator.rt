@@ -8,21 +8,24 @@ use std::alloc::{AllocError, Global};
 use std::test::Fail;
 use unit_io::Units;
 
-/// An image of these words, nine constants and a table, with 166 cells of 16 bytes, whose one statement is at the
+/// An image of these words and constants, and a table, with 166 cells of 16 bytes, whose one statement is at the
 /// first of the words.
-fn image_of(alloc: Global, words: &[u32]) -> Result<Option<Image>, ParamStop> {
+fn image_with(alloc: Global, words: &[u32], constants: &[u8]) -> Result<Option<Image>, ParamStop> {
     Ok(Image::new(
         &read_params(alloc, STANDARD_PARAMS)?,
         Vec::from_slice(alloc, &[(0x1_0000, 1, Macro::Endex)])?,
         Vec::from_slice(alloc, words)?,
-        Vec::from_slice(
-            alloc,
-            &[0x80u8, 0x81, 0x82, 0x83, 0x84, 0x85, 0x86, 0x87, 2],
-        )?,
+        Vec::from_slice(alloc, constants)?,
         Vec::new(alloc),
         Vec::new(alloc),
         vec![in alloc; 0u8; 4096]?,
     ))
+}
+
+/// An image of these words and nine constants.
+fn image_of(alloc: Global, words: &[u32]) -> Result<Option<Image>, ParamStop> {
+    let constants = [0x80, 0x81, 0x82, 0x83, 0x84, 0x85, 0x86, 0x87, 2];
+    image_with(alloc, words, &constants)
 }
 
 fn cpu_of(alloc: Global, words: &[u32]) -> Result<Option<Cpu>, ParamStop> {
@@ -83,6 +86,22 @@ pub fn end_after(
     words: &[u32],
 ) -> Result<Option<CpuEnd>, ParamStop> {
     end_of(alloc, &code_of(alloc, registers, words)?)
+}
+
+/// How a run of such words ends, over these constants and on these units.
+pub fn end_on(
+    alloc: Global,
+    constants: &[u8],
+    registers: &[(u32, u64)],
+    words: &[u32],
+    units: &mut Units,
+) -> Result<Option<CpuEnd>, ParamStop> {
+    let code = code_of(alloc, registers, words)?;
+    let Some(image) = image_with(alloc, &code, constants)? else {
+        return Ok(None);
+    };
+    let mut cpu = Cpu::new(alloc, &image, 1)?;
+    Ok(Some(cpu.run(units, 1000)))
 }
 
 /// How it ends where it comes to this place, and x5 is x8 there.

@@ -10,4 +10,6 @@ mod model;
 #[cfg(test)]
 mod results;
 #[cfg(test)]
+mod units;
+#[cfg(test)]
 mod words;

@@ -1,6 +1,12 @@
-// Runs the examples that its words name, and says of each whether it ends as its file `expected` says.
+// Runs the examples that its words name, and says of each whether it ends as its file `expected` says;
+// and the commands of pages, and says whether they answer as the page has it.
 #![tactic(auto)]
 
+mod page;
+mod printed;
+
+use crate::page::is_as_told;
+use crate::printed::{output, printed};
 use sil_base::{MemorySink, MemoryStore};
 use sil_cli::sil_main;
 use std::alloc::Global;
@@ -30,28 +36,48 @@ fn words_of(alloc: Global, folder: &str) -> io::Result<Vec<String>> {
     Ok(words)
 }
 
-/// Whether an example says what it is expected to say.
+/// Whether an example says and prints what it is expected to: its notes are its file `expected`, and
+/// what unit 6 holds is its file `printed`.
 fn is_as_expected(rt: &HostRuntime, folder: &str) -> io::Result<bool> {
+    let alloc = rt.alloc();
     let mut store = files_of(rt, folder)?;
-    let words = words_of(rt.alloc(), folder)?;
-    let mut notes = MemorySink::new(rt.alloc(), Vec::new(rt.alloc()));
+    let words = words_of(alloc, folder)?;
+    let mut notes = MemorySink::new(alloc, Vec::new(alloc));
     let mut units = Units::new();
-    let _ = sil_main(rt.alloc(), &words, &mut store, &mut units, &mut notes);
-    let expected = format!(in rt.alloc(); "{folder}/expected")?;
+    let _ = units.attach(6, Box::new(alloc, output(alloc))?);
+    let _ = sil_main(alloc, &words, &mut store, &mut units, &mut notes);
+    let text = printed(alloc, units.detach(6), b"")?;
+    let expected = format!(in alloc; "{folder}/expected")?;
+    let wanted = format!(in alloc; "{folder}/printed")?;
     Ok(
         store
             .get(expected.as_str())
-            .is_some_and(|text| text == notes.bytes()),
+            .is_some_and(|bytes| bytes == notes.bytes())
+            && store.get(wanted.as_str()).unwrap_or(b"") == text.as_slice(),
     )
 }
 
-/// Runs each example; the answer says whether all are as expected.
+/// The folder of the example that pages run.
+const OF_PAGES: &str = "examples/hello";
+
+/// Whether the commands of a page answer as it says, over the files of an example.
+fn is_page_true(rt: &HostRuntime, name: &str) -> io::Result<bool> {
+    let mut store = files_of(rt, OF_PAGES)?;
+    let page = fs::read_to_string(rt, name)?;
+    is_as_told(rt.alloc(), &mut store, page.as_str())
+}
+
+/// Runs each example and each page; the answer says whether all are as expected.
 fn run(rt: &HostRuntime) -> io::Result<bool> {
     let mut all = true;
-    for folder in env::args(rt)?.skip(1) {
-        let is = is_as_expected(rt, folder.as_str())?;
+    for name in env::args(rt)?.skip(1) {
+        let is = if name.ends_with(".md") {
+            is_page_true(rt, name.as_str())?
+        } else {
+            is_as_expected(rt, name.as_str())?
+        };
         println!(rt;
-            "{folder}: {}",
+            "{name}: {}",
             if is {
                 "as expected"
             } else {

@@ -3,8 +3,8 @@ ghost use Rattle.std.specs.Prelude.{◌≤◌};
 
 use crate::go::{files, go};
 use crate::programs::checked_of;
+use image_runs::run_image;
 use rv_emulate::CpuEnd;
-use sil_cli::run_image;
 use sil_machine::{End, sim};
 use std::alloc::{AllocError, Global};
 use std::test::Fail;

@@ -6,9 +6,10 @@ mod agreement;
 #[cfg(test)]
 mod command;
 #[cfg(test)]
-mod counts;
+mod commands;
 #[cfg(test)]
-mod go;
+mod counts;
+pub mod go;
 #[cfg(test)]
 mod machine;
 #[cfg(test)]

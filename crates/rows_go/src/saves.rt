@@ -3,10 +3,11 @@ ghost use Rattle.std.specs.Prelude.{Some};
 
 use crate::go::owned;
 use image_file::{load_image, write_image};
+use image_runs::run_image;
 use layout_params::STANDARD_PARAMS;
 use rv_emulate::CpuEnd;
 use sil_base::{Load, MemorySink, MemoryStore, Record, Save, Store};
-use sil_cli::{run_image, sil_main};
+use sil_cli::sil_main;
 use std::alloc::{AllocError, Global};
 use std::test::Fail;
 use unit_io::Units;

@@ -2,10 +2,10 @@
 ghost use Rattle.std.specs.Prelude.{◌≤◌};
 
 use crate::texts::{Sizes, params_of};
+use image_runs::run_image;
 use rv_emulate::CpuEnd;
 use sil_base::MemoryStore;
 use sil_check::{Checked, SourceNames, check};
-use sil_cli::run_image;
 use sil_install::install;
 use sil_machine::{End, sim};
 use std::alloc::Global;

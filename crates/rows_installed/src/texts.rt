@@ -5,15 +5,6 @@ use std::alloc::{AllocError, Global};
 /// DESCR, AOFF, FOFF, FLEN, VOFF, VLEN and STSIZE.
 pub type Sizes = [u64; 7];
 
-/// The standard layout.
-pub const STANDARD: Sizes = [16, 0, 8, 2, 12, 4, 64];
-
-/// The wide one.
-pub const WIDE: Sizes = [24, 0, 8, 4, 16, 8, 64];
-
-/// One of forty bytes, whose fields stand in another order, with the widest V and the narrowest F.
-pub const FAR: Sizes = [40, 16, 3, 1, 32, 8, 64];
-
 /// The names of these numbers.
 static NAMES: [&[u8]; 7] = [
     b"DESCR ", b"AOFF ", b"FOFF ", b"FLEN ", b"VOFF ", b"VLEN ", b"STSIZE ",

@@ -9,4 +9,6 @@ mod operations;
 pub use codes::{
     begun_twice_is_not_whole, jump_past_the_end_is_not_whole, two_statements_are_whole,
 };
-pub use operations::{division_at_its_edges, flags_past_their_limit, words_past_their_areas};
+pub use operations::{
+    division_at_its_edges, flags_past_their_limit, records_are_read, words_past_their_areas,
+};

@@ -1,5 +1,5 @@
 // Operations at the edges of what they find.
-ghost use Rattle.std.specs.Prelude.{◌≡◌, ◌+◌, ◌*◌, ℕ, length, pos, negsuc};
+ghost use Rattle.std.specs.Prelude.{◌≡◌, ◌+◌, ◌*◌, ℕ, length, pos, negsuc, Some, None, codes};
 ghost use Rattle.layout_params.specs.declared.cell.Field.TheVariants.{F};
 ghost use Rattle.sil_micro.specs.declared.op.Area.TheVariants as areas;
 ghost use Rattle.sil_micro.specs.declared.op.Arith.TheVariants.{Div, Rem};
@@ -7,6 +7,7 @@ ghost use Rattle.sil_micro.specs.declared.op.Op.TheVariants.{LoadWord, StoreFiel
 ghost use Rattle.sil_micro.specs.Operations.{Effect, Stuck, act, undefined};
 ghost use Rattle.sil_micro.specs.MicroStates.{Micro, Setting};
 ghost use Rattle.sil_micro.specs.MicroWords.{computed};
+ghost use Rattle.rows_micro.specs.Reads.{left, reads, two_records, wide_record};
 
 /// -2^63 divided by -1 is -2^63 with nothing left, and by 0 the quotient is -1 and the remainder the
 /// dividend.
@@ -34,4 +35,14 @@ pub fn words_past_their_areas()
     ensures kind { (g : Setting) (u : Micro) → u.registers.r1 ≡ pos (length u.state.memory.cells) → act g (LoadWord areas.Kind 2 1) u ≡ undefined u }
     ensures bytes { (g : Setting) (u : Micro) → u.registers.r1 ≡ negsuc 0 → act g (LoadWord areas.Bytes 2 1) u ≡ undefined u }
     ensures tables { (g : Setting) (u : Micro) → u.registers.r1 ≡ pos (512 * length u.state.tables) → act g (LoadWord areas.Tables 2 1) u ≡ Stuck }
+{}
+
+/// A read leaves the record's first characters, and behind them the old ones. One that fails, or
+/// is at the end, leaves all as it was. A number that is no byte counts by its lowest eight bits.
+pub fn records_are_read()
+    ensures short { (g : Setting) → left (reads g 1 two_records) ≡ Some (pos 0, None, codes "AByz") }
+    ensures cut { (g : Setting) → left (reads g 2 two_records) ≡ Some (pos 0, None, codes "ABCD") }
+    ensures failed { (g : Setting) → left (reads g 3 two_records) ≡ Some (pos 2, Some 5, codes "ABCD") }
+    ensures end { (g : Setting) → left (reads g 4 two_records) ≡ Some (pos 1, None, codes "ABCD") }
+    ensures wide { (g : Setting) → left (reads g 1 wide_record) ≡ Some (pos 0, None, codes "Axyz") }
 {}

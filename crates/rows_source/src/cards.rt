@@ -6,7 +6,7 @@ use std::alloc::{AllocError, Global};
 use std::test::Fail;
 
 /// Sources of one file.
-static SOURCES: [(&[u8], &[u8]); 18] = [
+static SOURCES: [(&[u8], &[u8]); 6] = [
     (b" END\n", b"1: END |"),
     (b" END", b"1: END |"),
     (
@@ -21,28 +21,10 @@ static SOURCES: [(&[u8], &[u8]); 18] = [
         b" MOVD 'A B C',D comment\n END all of it\n MOVE\n",
         b"1: MOVD 'A B C',D|2: END all|",
     ),
-    (b"X! MOVD A,B\n MOVE A\n", b"1 C5;2 C3;3 C8;"),
-    (b" MOVD A,B\n*\n*\n*\n*\n", b"6 C8;"),
-    (b"", b"1 C8;"),
-    (b"X! END\n MOVE\n", b"1 C5;"),
     (
         b" MOVD A\r,B\n\x7f\nA\n MOVD (\n END\n",
         b"1 C2;2 C2;3 C3;4 C4;",
     ),
-    (
-        b" COPY -LIB\n COPY ''\n COPY A,B\n COPY 5\n COPY (A)\n COPY A+B\n COPY A*B\n COPY\n END\n",
-        b"1 C4;2 C4;3 C4;4 C4;5 C4;6 C4;7 C4;8 C4;",
-    ),
-    (b" COPY LIB\n", b"missing LIB"),
-    (b" COPY +LIB\n", b"missing LIB"),
-    (b" COPY LIB,,\n", b"missing LIB"),
-    (b" COPY 'A ''B'\n", b"missing A 'B"),
-    (b"1X COPY LIB\n END\n", b"1 C5;"),
-    (
-        b"ABCDEFGHIJKLMNOP MOVD A,B\nABCDEFGHIJKLMNOPQ MOVD A,B\n END\n",
-        b"2 C5;",
-    ),
-    (b" MOVD A'B C'D\n END\n", b"1 C4;"),
 ];
 
 /// The files, the calls on the store that fail, and the cards of the file S.

@@ -1,5 +1,4 @@
-// Sources and their programs.
-use crate::texts::WIDE_PARAMS;
+// Shapes of operands, and the programs of sources.
 use layout_params::{Cell, Descr, STANDARD_PARAMS};
 use sil_base::MemoryStore;
 use sil_check::{CheckStop, Checked, SourceNames, check, fits};
@@ -7,111 +6,6 @@ use sil_macros::Macro;
 use sil_model::{Statement, number, place};
 use sil_operands::read_operands;
 use std::alloc::Global;
-
-/// What a check answers: a program, or one fault by its line, letter and rule.
-#[derive(Clone, Copy, PartialEq, Eq, Debug)]
-enum Outcome {
-    Built,
-    NotBuilt,
-    Broken(u32, u8, u8),
-    Other,
-}
-
-static SOURCES: [(&[u8], Outcome); 26] = [
-    (b" MOVD X,X\nX DESCR\n END\n", Outcome::Built),
-    (b" END X,(\n", Outcome::Built),
-    (b" MOVD X,Q\nX DESCR\n END\n", Outcome::Broken(1, b'N', 3)),
-    (
-        b" MOVD X\nX DESCR\nX DESCR\n END\n",
-        Outcome::Broken(3, b'N', 1),
-    ),
-    (
-        b" MOVD X\nX DESCR A\nA EQU A\n END\n",
-        Outcome::Broken(3, b'V', 1),
-    ),
-    (b" MOVD X\nX DESCR\n END\n", Outcome::Broken(1, b'S', 1)),
-    (b" MOVD X,X,X\nX DESCR\n END\n", Outcome::Broken(1, b'S', 1)),
-    (b" MOVD X,(X)\nX DESCR\n END\n", Outcome::Broken(1, b'S', 1)),
-    (b" BRANCH X\nX ENDEX Z\nZ DESCR\n END\n", Outcome::Built),
-    (b" DATE S\nS SPEC\n END\n", Outcome::NotBuilt),
-    (b"F FORMAT '(I3)'\n END\n", Outcome::NotBuilt),
-    (b"S STRING\n END\n", Outcome::Broken(1, b'S', 1)),
-    (b"X DESCR 1,2,3,4\n END\n", Outcome::Broken(1, b'S', 1)),
-    (b"X DESCR 0,65535,4294967295\n END\n", Outcome::Built),
-    (b"X DESCR 0,65536\n END\n", Outcome::Broken(1, b'A', 1)),
-    (
-        b"X DESCR 0,0,4294967296\n END\n",
-        Outcome::Broken(1, b'A', 1),
-    ),
-    (
-        b"X DESCR 0,65536\n BRANCH X\n END\n",
-        Outcome::Broken(2, b'S', 2),
-    ),
-    (
-        b" MOVD A+32,S\n MOVD S+16,P+16\nA ARRAY 3\nS STRING 'AB'\nP SPEC\n END\n",
-        Outcome::Built,
-    ),
-    (b" ENDEX S+32\nS STRING 'AB'\n END\n", Outcome::Built),
-    (b" ENDEX B\nB BUFFER 1\n END\n", Outcome::Built),
-    (b" ENDEX X+16\nX DESCR\n END\n", Outcome::Built),
-    (b" ENDEX X-16\nX DESCR\n END\n", Outcome::Built),
-    (b" ENDEX X+8\nX DESCR\n END\n", Outcome::Built),
-    (b" ENDEX -1\n END\n", Outcome::Built),
-    (b" ENDEX 1073741824\nX DESCR\n END\n", Outcome::Built),
-    (b"X ENDEX X\n END\n", Outcome::Built),
-];
-
-/// Sources, tables and parameters.
-static OTHERS: [(&[u8], &[u8], &[u8], Outcome); 8] = [
-    (
-        b" ENDEX Z\nZ DESCR\n END\n",
-        b"\n",
-        STANDARD_PARAMS,
-        Outcome::Built,
-    ),
-    (
-        b" ENDEX Z\nZ DESCR\n END\n",
-        b"BEGIN Z\nELSE PUT(Z) GOTO(Z)\nEND Z\n",
-        STANDARD_PARAMS,
-        Outcome::Built,
-    ),
-    (
-        b" ENDEX Z\nZ DESCR\n END\n",
-        b"BEGIN Z\nELSE PUT(T) STOP\nEND Z\n",
-        WIDE_PARAMS,
-        Outcome::Broken(2, b'T', 6),
-    ),
-    (
-        b" ENDEX Z\nZ DESCR\nZ DESCR\n END\n",
-        b"?",
-        STANDARD_PARAMS,
-        Outcome::Broken(3, b'N', 1),
-    ),
-    (
-        b" ENDEX Z\nZ DESCR 0,-1\n END\n",
-        b"?",
-        STANDARD_PARAMS,
-        Outcome::Broken(2, b'A', 1),
-    ),
-    (
-        b" BRANCH Z\nZ DESCR\n END\n",
-        b"?",
-        STANDARD_PARAMS,
-        Outcome::Broken(1, b'S', 2),
-    ),
-    (
-        b" ENDEX Z\nZ DESCR\n END\n",
-        b"",
-        WIDE_PARAMS,
-        Outcome::Built,
-    ),
-    (
-        b" ENDEX Q\n END\n",
-        b"\n",
-        WIDE_PARAMS,
-        Outcome::Broken(1, b'N', 3),
-    ),
-];
 
 /// A macro, an operand field, and whether the operands have the macro's shape.
 static SHAPES: [(Macro, &[u8], bool); 48] = [
@@ -180,18 +74,6 @@ pub fn checked(
     check(alloc, &mut store, &names)
 }
 
-fn answered(answer: &Result<Checked, CheckStop>) -> Outcome {
-    match answer {
-        Ok(_) => Outcome::Built,
-        Err(CheckStop::NotBuilt) => Outcome::NotBuilt,
-        Err(CheckStop::Faults(faults)) => match faults.items() {
-            [fault] => Outcome::Broken(fault.line.number, fault.code.letter, fault.code.rule),
-            _ => Outcome::Other,
-        },
-        Err(_) => Outcome::Other,
-    }
-}
-
 /// The card of a statement, its macro, and its operands as places and as a number.
 fn row(statement: &Statement) -> (u32, Macro, Option<i64>, Option<i64>, Option<i64>) {
     let args = statement.args.items();
@@ -202,18 +84,6 @@ fn row(statement: &Statement) -> (u32, Macro, Option<i64>, Option<i64>, Option<i
         place(args, 1),
         number(args, 1),
     )
-}
-
-#[test]
-fn sources_and_their_answers(rt: HostRuntime) {
-    for &(source, expected) in &SOURCES {
-        let answer = checked(rt.alloc(), source, b"", STANDARD_PARAMS);
-        assert_eq!(rt; answered(&answer), expected);
-    }
-    for &(source, tables, params, expected) in &OTHERS {
-        let answer = checked(rt.alloc(), source, tables, params);
-        assert_eq!(rt; answered(&answer), expected);
-    }
 }
 
 #[test]

@@ -21,24 +21,7 @@ const GOOD: Files = &[("PARAMS", STANDARD_PARAMS), ("TABLES", b"?")];
 const BARE: Files = &[("PARAMS", STANDARD_PARAMS), ("TABLES", b"")];
 
 /// Files of parameters and tables, a source with the files that it copies, the loads that fail, and what is answered.
-static ROWS: [(Files, Files, &[u64], &[u8]); 21] = [
-    (BARE, &[("SRC", ENDS)], &[], b"1 statements"),
-    (
-        BARE,
-        &[("SRC", b" COPY A\n"), ("A", ENDS)],
-        &[],
-        b"1 statements",
-    ),
-    // the first file that can't be had decides: the parameters, the tables, the source, its copies in their order
-    (&[], &[], &[], b"missing PARAMS"),
-    (&[("PARAMS", b"?")], &[], &[], b"missing TABLES"),
-    (BAD, &[], &[], b"missing SRC"),
-    (
-        BAD,
-        &[("SRC", b" MOVE\n COPY A\n COPY B\n COPY C\n"), ("A", b"")],
-        &[],
-        b"missing B",
-    ),
+static ROWS: [(Files, Files, &[u64], &[u8]); 5] = [
     (&[], &[("SRC", b" COPY A\n")], &[1], b"failed PARAMS"),
     (BAD, &[], &[2], b"failed TABLES"),
     (BAD, &[], &[3], b"failed SRC"),
@@ -53,63 +36,6 @@ static ROWS: [(Files, Files, &[u64], &[u8]); 21] = [
         &[("SRC", b" COPY A\n"), ("A", b" END\n")],
         &[5],
         b"params 1 L1;",
-    ),
-    // then the fault of the parameters
-    (BAD, &[("SRC", b"X! MOVE\n END\n")], &[], b"params 1 L1;"),
-    (
-        &[("PARAMS", b""), ("TABLES", b"")],
-        &[("SRC", ENDS)],
-        &[],
-        b"params 1 L3;",
-    ),
-    // then those of the cards, of names, of values, of statements, of data, of tables and of special symbols
-    (
-        GOOD,
-        &[("SRC", b" MOVE\n ENDEX Q\n")],
-        &[],
-        b"faults 1 C3;3 C8;",
-    ),
-    (
-        GOOD,
-        &[("SRC", b" ENDEX Q\n ENDEX R,R\nA EQU A\n END\n")],
-        &[],
-        b"faults 1 N3;2 N3;",
-    ),
-    (
-        GOOD,
-        &[("SRC", b" ENDEX A,A\nA EQU A\nB EQU B\n END\n")],
-        &[],
-        b"faults 2 V1;3 V1;",
-    ),
-    (
-        GOOD,
-        &[("SRC", b" ENDEX Z,Z\nZ DESCR 0,65536\n END\n")],
-        &[],
-        b"faults 1 S1;",
-    ),
-    (
-        GOOD,
-        &[("SRC", b" ENDEX Z\nZ DESCR 0,65536\n END\n")],
-        &[],
-        b"faults 2 A1;",
-    ),
-    (
-        GOOD,
-        &[("SRC", b" INIT\n ENDEX Z\nZ DESCR\n END\n")],
-        &[],
-        b"faults 1 T1;",
-    ),
-    (
-        BARE,
-        &[("SRC", b" INIT\n ENDEX Z\nZ DESCR\n END\n")],
-        &[],
-        b"faults 1 P1;",
-    ),
-    (
-        BARE,
-        &[("SRC", b" DATE S\nS SPEC\n END\n")],
-        &[],
-        b"not built",
     ),
 ];
 

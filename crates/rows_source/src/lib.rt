@@ -10,7 +10,7 @@ mod data;
 #[cfg(test)]
 mod files;
 #[cfg(test)]
-mod statements;
+mod formats;
 #[cfg(test)]
 mod symbols;
 #[cfg(test)]

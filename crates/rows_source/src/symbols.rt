@@ -1,4 +1,4 @@
-// Sources, their faults and the values of their symbols.
+// Sources and the values of their symbols.
 use crate::texts::{standard, text_of};
 use layout_params::Params;
 use sil_base::{Record, decimal};
@@ -7,87 +7,6 @@ use sil_operands::{Operand, read_operands};
 use sil_symbols::{Stmt, SymbolStop, resolve};
 use std::alloc::{AllocError, Global};
 use std::test::Fail;
-
-/// Sources, and the cards and rules of their faults.
-static FAULTS: [(&str, &[u8]); 38] = [
-    (
-        "X DESCR 0\nX DESCR 1\n MOVD X,Q\nA EQU B\nB EQU A\n MOVD X\n END",
-        b"2 N1;3 N3;",
-    ),
-    (
-        "X DESCR 0\nY DESCR 1\n MOVD X,Y\nA EQU B\nB EQU A\n MOVD X\n END",
-        b"4 V1;5 V1;",
-    ),
-    ("A DESCR\nA END", b""),
-    ("A EQU 1\nA LHERE\nA PROC\n END", b"2 N1;3 N1;"),
-    ("DESCR DESCR\nDESCR DESCR\n END", b"1 N2;2 N1;"),
-    ("UNITP EQU Q\n END", b"1 N2;"),
-    ("PTR EQU\nOBSIZE EQU 1\n END", b"1 N2;"),
-    (" EQU 1\n END", b"1 N4;"),
-    (" EQU Q\n END", b"1 N3;"),
-    (" END Q", b""),
-    (" MOVD X,X,Q\nX DESCR\n END", b"1 N3;"),
-    (" PUSH (X,,Q)\nX DESCR\n END", b"1 N3;"),
-    (" PROC Q\n PROC 1+2*Q-3\n END", b"1 N3;2 N3;"),
-    (" OUTPUT U,Q\nU DESCR\n END", b"1 N3;"),
-    (
-        "S SPEC\n STREAM S,S,Q,L,L,L\n CLERTB (Q),CONTIN\nL LHERE\n END",
-        b"",
-    ),
-    (
-        "S SPEC\n STREAM S,S,Q,Q,L,L\n CLERTB Q,Q,Q\nL LHERE\n END",
-        b"2 N3;3 N3;",
-    ),
-    ("A EQU A\nB EQU A+1\n MOVD B,B\n END", b"1 V1;2 V1;"),
-    (
-        "A EQU B\nB EQU C\nC EQU D+A\nD EQU 1\nE EQU D\n END",
-        b"1 V1;2 V1;3 V1;",
-    ),
-    ("A EQU A\n DESCR A+9223372036854775808\n END", b"1 V1;2 V3;"),
-    (
-        "A EQU A\n DESCR 9223372036854775807*2+A\n END",
-        b"1 V1;2 V3;",
-    ),
-    (
-        "A EQU A\n DESCR A*9223372036854775807*2\n DESCR 0*A\n END",
-        b"1 V1;",
-    ),
-    (
-        "A EQU A+9223372036854775808\nB EQU 9223372036854775808+A\n DESCR A\n END",
-        b"1 V1;2 V1;",
-    ),
-    ("A EQU A\nN ARRAY A\n END", b"1 V1;2 V2;"),
-    (
-        "A EQU 9223372036854775808\nB EQU A\nC EQU 1,A\n DESCR B\n END",
-        b"1 V3;2 V3;3 V3;4 V3;",
-    ),
-    ("A EQU\n DESCR A\n END", b"2 V3;"),
-    ("A EQU (1)\n DESCR ,(,A)\n END", b"2 V3;"),
-    (
-        "X DESCR\nN ARRAY X\n BUFFER 0*X\n ARRAY 'N'\n BUFFER\n END",
-        b"2 V2;3 V2;4 V2;5 V2;",
-    ),
-    (" ARRAY 1048577\n BUFFER 0-1\n ARRAY 0\n END", b"1 V2;2 V2;"),
-    (" ARRAY A*DESCR-A\nA EQU 3\n END", b""),
-    (" DESCR -9223372036854775808\n END", b"1 V3;"),
-    (" DESCR 0*9223372036854775808\n END", b"1 V3;"),
-    (" DESCR 9223372036854775807*2*0\n END", b"1 V3;"),
-    (" DESCR 9223372036854775807+1-1\n END", b"1 V3;"),
-    (
-        " DESCR -9223372036854775807-1\n DESCR 9223372036854775807\n END",
-        b"",
-    ),
-    (
-        "A EQU -9223372036854775807-1\n DESCR 0-A\n DESCR -1*A\n DESCR A*1\n END",
-        b"2 V3;3 V3;",
-    ),
-    (
-        "B DESCR 9223372036854775808,18446744073709551615\n END",
-        b"1 V3;",
-    ),
-    (" ARRAY 1048410\n END", b""),
-    (" ARRAY 1048410\n DESCR\n END", b"3 V4;"),
-];
 
 /// Sources, and names with their values.
 static VALUES: [(&str, &[u8], Option<i64>); 25] = [
@@ -197,17 +116,6 @@ fn report(alloc: Global, statements: &[Stmt], params: &Params) -> Result<Vec<u8>
         Some(stop) => stop_text(alloc, &stop),
         None => Ok(Vec::new(alloc)),
     }
-}
-
-#[test]
-fn faults_are_found(rt: HostRuntime) -> Result<(), Fail> {
-    let params = standard(rt.alloc())?;
-    for &(source, expected) in &FAULTS {
-        let statements = statements_of(rt.alloc(), source)?;
-        let text = report(rt.alloc(), &statements, &params)?;
-        assert!(rt; text.as_slice() == expected, "at {source}");
-    }
-    Ok(())
 }
 
 #[test]

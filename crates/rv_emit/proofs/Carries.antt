@@ -23,7 +23,7 @@ use Rattle.rv_operations.specs.Ops.{length_of}
 use Rattle.rv_emit.specs.Carries.{HasRegions, Starts}
 use Rattle.rv_emit.specs.Code.{first_op, last_place, op_place, place_from, ops_code, past_code, stack_top, start_code}
 use Rattle.rv_emit.specs.Emits.{LawOfEmission}
-use Rattle.rv_emit.specs.Ways.{place}
+use Rattle.rv_emit.specs.StatementPlaces.{place}
 use Rattle.rv_emit.proofs.Sums.{take_all}
 use Rattle.rv_emit.proofs.Placed.{last_near}
 use Rattle.rv_emit.proofs.RoutineWords.{start_words, past_words}

@@ -20,7 +20,7 @@ use Rattle.rv_operations.specs.Does.{Does}
 use Rattle.rv_operations.specs.Ops.{IsKnown}
 use Rattle.rv_operations.specs.StandsFor.{StandsFor}
 use Rattle.rv_emit.specs.Code.{places_of, place_from, stack_top, last_place}
-use Rattle.rv_emit.specs.Ways.{place}
+use Rattle.rv_emit.specs.StatementPlaces.{place}
 
 -- the scratch bytes with the two places of the stack
 abbrev pub with_stack : ℕ → List ℕ → List ℕ

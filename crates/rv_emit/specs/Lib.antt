@@ -1,7 +1,7 @@
 pub mod Parts
 pub mod Represents
-pub mod Ways
 pub mod Code
+pub mod StatementPlaces
 pub mod Carries
 pub mod Emits
 pub mod Planned

@@ -1,7 +1,12 @@
 pub mod RunLaws
 pub mod LittleNumbers
+pub mod UnitLaws
+pub mod ReadLaws
+pub mod CallLaws
+pub mod Acting
 pub mod Turns
 pub mod Alike
 pub mod Standing
+pub mod Cutting
 pub mod FlatLaws
 pub mod Places

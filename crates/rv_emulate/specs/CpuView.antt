@@ -4,6 +4,7 @@ use Rattle.layout_params.specs.Parameters.{standard}
 use Rattle.sil_macros.specs.declared.names.Macro.TheVariants.{Endex}
 use Rattle.rv_isa.specs.declared.instr.Instr.{Instr}
 use Rattle.sil_base.specs.declared.places.TheConstants.{FIRST_WORD}
+use Rattle.unit_io.specs.Tapes.{Tapes}
 use Rattle.image_file.specs.Image.{Image, StatementEntry}
 use Rattle.rv_emulate.specs.declared.code.Code.{Code}
 use Rattle.rv_emulate.specs.declared.memory.Regions.{Regions}
@@ -28,12 +29,12 @@ memory_of m = record { cells = m.cells.items; kinds = m.kinds.items; tables = m.
 abbrev pub instr_of : Flat → Option Instr
 instr_of f = instr_by f.what f.rd f.rs1 f.rs2 f.imm
 
--- without tapes, which no instruction reads yet
-abbrev pub state_at : ℕ → Storage → State
-state_at pc s = record { pc = pc; registers = s.registers; memory = memory_of s.memory; tapes = []; failed = s.failed }
+-- the state at a place, with these tapes
+abbrev pub state_at : ℕ → Storage → Tapes → State
+state_at pc s tapes = record { pc = pc; registers = s.registers; memory = memory_of s.memory; tapes = tapes; failed = s.failed }
 
-abbrev pub state_of : Hart → State
-state_of h = state_at h.pc h.storage
+abbrev pub state_of : Hart → Tapes → State
+state_of h tapes = state_at h.pc h.storage tapes
 
 -- what contracts see of a Cpu
 abbrev pub view_of : Code → Hart → Option CpuEnd → CpuState

@@ -1,9 +1,16 @@
 -- What an ECALL asks for: the number of the call stands in a7 (x17), its operands in a0 to a5 (x10 to x15).
-use Rattle.std.specs.Prelude.{ℕ, ◌*◌, ◌%◌, Bool, false, ◌&&◌, ◌||◌, ◌==◌, nat_lt, nat_le, List, Option, Some, None, if◌then◌else◌}
+use Rattle.std.specs.Prelude.{ℕ, zero, suc, ◌*◌, ◌%◌, Bool, false, ◌&&◌, ◌||◌, ◌==◌, nat_lt, nat_le, List, [], ◌∷◌, take, drop, map, Option, Some, None, if◌then◌else◌, ℤ}
+use Rattle.std.specs.Int.{w64, cast_signed}
+use Rattle.sil_base.specs.Bytes.{number}
+use Rattle.sil_format.specs.declared.value.Value.{Value}
+use Rattle.sil_format.specs.declared.value.Value.TheVariants.{Number, Char}
+use Rattle.unit_io.specs.Tapes.{TapeState, rewound, backspaced, ended}
+use Rattle.unit_io.specs.Answers.{read_bytes}
+use Rattle.unit_calls.specs.CallsMade.{Made, moved, print_on, read}
 use Rattle.sil_base.specs.declared.limits.TheConstants.{MAX_FORMAT_BYTES, MAX_LIST_ITEMS, MAX_VALUE_CHARACTERS}
 use Rattle.rv_emulate.specs.declared.end.CpuEnd.{CpuEnd}
 use Rattle.rv_emulate.specs.declared.end.CpuEnd.TheVariants.{Exit, Trap, Undefined, Budget, UnitFault, BadCall}
-use Rattle.rv_emulate.specs.EmulatorMemory.{Memory, can_load, can_store}
+use Rattle.rv_emulate.specs.EmulatorMemory.{Memory, bytes_at, can_load, can_store, with_bytes}
 use Rattle.rv_emulate.specs.EmulatorStates.{register}
 
 -- the end at a statement where the last unit call failed
@@ -49,6 +56,31 @@ is_unit_call constants m xs =
     else if a7 == 3 then can_write constants m xs
     else (a7 == 4) || (a7 == 5) || (a7 == 6)
 
--- the answer in a0 where the unit is absent, as each unit is, since none can be attached yet
-abbrev pub absent : ℕ
-absent = 4
+-- ---- what is handed to a unit, and what the call leaves
+
+-- as many words of eight bytes, as signed numbers
+abbrev pub words_in : ℕ → List ℕ → List ℤ
+words_in zero bytes = []
+words_in (suc n) bytes = cast_signed w64 (number (take 8 bytes)) ∷ words_in n (drop 8 bytes)
+
+-- the values of call 3
+abbrev pub values_at : List ℕ → Memory → ℕ → ℕ → ℕ → List Value
+values_at constants m a3 a4 a5 = if a5 == 0 then map Char (bytes_at constants m a4 a3) else map Number (words_in a4 (bytes_at constants m (8 * a4) a3))
+
+-- a call that can be made, on the unit's tape
+abbrev pub made_by : List ℕ → Memory → List ℕ → TapeState → Made
+made_by constants m xs t =
+    let a7 = register xs 17 in
+    if a7 == 2 then read t
+    else if a7 == 3 then print_on (bytes_at constants m (register xs 12) (register xs 11)) (values_at constants m (register xs 13) (register xs 14) (register xs 15)) t
+    else if a7 == 4 then moved rewound t
+    else if a7 == 5 then moved backspaced t
+    else moved ended t
+
+-- the bytes after a read into old ones; a number of a record that is no byte counts by its lowest eight bits
+abbrev pub bytes_read : TapeState → List ℕ → List ℕ
+bytes_read t old = map (λ c. c % 256) (read_bytes t old)
+
+-- the memory that it leaves: call 2 reads into it
+abbrev pub memory_after : Memory → List ℕ → TapeState → Memory
+memory_after m xs t = if register xs 17 == 2 then with_bytes m (register xs 11) (bytes_read t (bytes_at [] m (register xs 12) (register xs 11))) else m

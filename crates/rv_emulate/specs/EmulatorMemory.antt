@@ -1,5 +1,5 @@
 -- The regions of the emulator's memory, and loads and stores.
-use Rattle.std.specs.Prelude.{ℕ, ◌+◌, ◌-◌, ◌%◌, Bool, ◌&&◌, ◌||◌, ◌==◌, nat_le, List, length, Option, Some, None, option_map, if◌then◌else◌}
+use Rattle.std.specs.Prelude.{ℕ, ◌+◌, ◌-◌, ◌%◌, Bool, ◌&&◌, ◌||◌, ◌==◌, nat_le, List, [], length, Option, Some, None, option_map, if◌then◌else◌}
 use Rattle.sil_base.specs.Bytes.{number, low_bytes, piece, with_piece}
 use Rattle.sil_base.specs.declared.places.TheConstants.{FIRST_CELL, FIRST_CONSTANT, FIRST_KIND, FIRST_SCRATCH, FIRST_TABLE}
 
@@ -37,6 +37,27 @@ stored m n address v =
     if address % n == 0
     then or_else (option_map (λ b. record m { cells = b }) (store_into FIRST_CELL m.cells n address v)) (or_else (option_map (λ b. record m { kinds = b }) (store_into FIRST_KIND m.kinds n address v)) (or_else (option_map (λ b. record m { tables = b }) (store_into FIRST_TABLE m.tables n address v)) (option_map (λ b. record m { scratch = b }) (store_into FIRST_SCRATCH m.scratch n address v))))
     else None
+
+abbrev pub piece_from : ℕ → List ℕ → ℕ → ℕ → Option (List ℕ)
+piece_from first bytes n address = if holds first bytes n address then Some (piece (address - first) n bytes) else None
+
+abbrev pub or_nothing : Option (List ℕ) → List ℕ
+or_nothing None = []
+or_nothing (Some bytes) = bytes
+
+-- the n bytes at an address, where a region holds them
+unfoldable pub bytes_at : List ℕ → Memory → ℕ → ℕ → List ℕ
+bytes_at constants m n address =
+    or_nothing (or_else (piece_from FIRST_CELL m.cells n address) (or_else (piece_from FIRST_KIND m.kinds n address) (or_else (piece_from FIRST_TABLE m.tables n address) (or_else (piece_from FIRST_CONSTANT constants n address) (piece_from FIRST_SCRATCH m.scratch n address)))))
+
+-- the memory with other bytes at an address, where a region that can be stored to holds them
+unfoldable pub with_bytes : Memory → ℕ → List ℕ → Memory
+with_bytes m address bytes =
+    if holds FIRST_CELL m.cells (length bytes) address then record m { cells = with_piece (address - FIRST_CELL) bytes m.cells }
+    else if holds FIRST_KIND m.kinds (length bytes) address then record m { kinds = with_piece (address - FIRST_KIND) bytes m.kinds }
+    else if holds FIRST_TABLE m.tables (length bytes) address then record m { tables = with_piece (address - FIRST_TABLE) bytes m.tables }
+    else if holds FIRST_SCRATCH m.scratch (length bytes) address then record m { scratch = with_piece (address - FIRST_SCRATCH) bytes m.scratch }
+    else m
 
 -- n bytes at an address lie in one region that can be stored to, as no bytes do anywhere
 unfoldable pub can_store : Memory → ℕ → ℕ → Bool

@@ -1,5 +1,5 @@
 -- What an instruction does, by the RISC-V unprivileged manual (RV64I and M).
-use Rattle.std.specs.Prelude.{ℕ, ◌+◌, ◌-◌, ◌*◌, ◌/◌, ◌%◌, ◌^◌, ℤ, ◌&&◌, ◌==◌, nat_le, List, length, Option, Some, None, option_map, if◌then◌else◌, slice_get}
+use Rattle.std.specs.Prelude.{ℕ, ◌+◌, ◌-◌, ◌*◌, ◌/◌, ◌%◌, ◌^◌, ℤ, Bool, true, false, ◌&&◌, ◌==◌, nat_le, List, length, Option, Some, None, option_map, if◌then◌else◌, slice_get}
 use Rattle.rv_isa.specs.declared.instr.ROp.TheVariants as r
 use Rattle.rv_isa.specs.declared.instr.IOp.{IOp}
 use Rattle.rv_isa.specs.declared.instr.IOp.TheVariants.{Addi, Slti, Sltiu, Xori, Ori, Andi, Slli, Srli, Srai, Lb, Lh, Lw, Ld, Lbu, Lhu, Lwu, Jalr, Addiw, Slliw, Srliw, Sraiw, Fence}
@@ -9,12 +9,15 @@ use Rattle.rv_isa.specs.declared.instr.Instr.TheVariants.{R, I, S, B, U, J, Ecal
 use Rattle.rv_isa.specs.InstrWords.{twos}
 use Rattle.rv_isa.specs.Decoded.{decoded}
 use Rattle.sil_base.specs.declared.places.TheConstants.{FIRST_WORD}
+use Rattle.unit_io.specs.Numbered.{unit_at}
+use Rattle.unit_io.specs.Tapes.{TapeState, with_tape}
+use Rattle.unit_calls.specs.CallsMade.{Made, absent, unit_number}
 use Rattle.image_file.specs.Image.{Image}
 use Rattle.rv_emulate.specs.declared.end.CpuEnd.{CpuEnd}
 use Rattle.rv_emulate.specs.declared.end.CpuEnd.TheVariants.{Illegal, Fetch, Load, Store}
 use Rattle.rv_emulate.specs.EmulatorMemory.{Memory, loaded, stored}
 use Rattle.rv_emulate.specs.EmulatorStates.{State, Outcome, On, Ended, register, with_register, statement_number}
-use Rattle.rv_emulate.specs.Ecalls.{call, is_unit_call, absent}
+use Rattle.rv_emulate.specs.Ecalls.{call, is_unit_call, made_by, memory_after}
 pub use Rattle.rv_emulate.specs.InstrValues.{sum64, extended_from, extended, r_value, taken, s_width}
 
 abbrev pub ends_with : CpuEnd → State → Outcome
@@ -73,16 +76,34 @@ i_step image Lwu s rd x imm = loads image s rd 4 (sum64 x (twos 64 imm))
 i_step image Jalr s rd x imm = jump s rd (sum64 x (twos 64 imm) / 2 * 2)
 i_step image Fence s rd x imm = next s
 
--- the answer of a call on a unit
-abbrev pub answer : State → Outcome
-answer s = On (record s { pc = s.pc + 4; registers = with_register s.registers 10 absent; failed = None })
+-- the unit of a call, where it failed
+abbrev pub failed_unit : Bool → ℕ → Option ℕ
+failed_unit false unit = None
+failed_unit true unit = Some unit
+
+-- the number of the unit that a call names in a0
+abbrev pub unit_of : State → ℕ
+unit_of s = unit_number (register s.registers 10)
+
+-- a call on a unit was made: its answer is in a0
+abbrev pub answered : State → Made → Memory → Outcome
+answered s made m = On (record s { pc = s.pc + 4; registers = with_register s.registers 10 made.answer; memory = m; tapes = with_tape s.tapes (unit_of s) made.tape; failed = failed_unit made.failed (unit_of s) })
+
+-- a call on what has the unit's number: an absent unit gives its answer, and no call on it fails; there is no end where the unit doesn't tell its tape
+abbrev pub answer_on : Image → State → Option (Option TapeState) → Outcome
+answer_on image s None = On (record s { pc = s.pc + 4; registers = with_register s.registers 10 absent; failed = None })
+answer_on image s (Some None) = Ended None s.tapes
+answer_on image s (Some (Some t)) = answered s (made_by image.constants s.memory s.registers t) (memory_after s.memory s.registers t)
+
+abbrev pub answer : Image → State → Outcome
+answer image s = answer_on image s (unit_at s.tapes (unit_of s))
 
 -- the end by any other call
 abbrev pub ended : Image → State → Outcome
 ended image s = ends_with (call (length image.statements) (register s.registers 17) (register s.registers 10) (statement_number s) s.failed s.pc) s
 
 abbrev pub ecall : Image → State → Outcome
-ecall image s = if is_unit_call image.constants s.memory s.registers then answer s else ended image s
+ecall image s = if is_unit_call image.constants s.memory s.registers then answer image s else ended image s
 
 abbrev pub act : Image → Instr → State → Outcome
 act image (R op rd rs1 rs2) s = next_with s rd (r_value op (register s.registers rs1) (register s.registers rs2))

@@ -9,3 +9,6 @@ pub mod EmulatorRuns
 pub mod AlongRuns
 pub mod Cpus
 pub mod CpuView
+pub mod UnitAnswers
+pub mod CpuTurns
+pub mod CutRuns

@@ -1,13 +1,15 @@
 // What each instruction does.
 
 ghost use Rattle.std.specs.Prelude.{◌≡◌, ◌+◌, ◌*◌, ◌<◌, ◌^◌, ◌⊎◌, if◌then◌else◌};
-ghost use Rattle.rv_emulate.specs.EmulatorSteps.{ecall, jump, loads, loads_signed, extended, next_with, r_value, store_step, sum64, taken, with_instr};
+ghost use Rattle.unit_io.specs.Tapes.{Tapes};
+ghost use Rattle.unit_io.specs.Units.{tapes_of};
+ghost use Rattle.rv_emulate.specs.EmulatorSteps.{jump, loads, loads_signed, extended, next_with, r_value, store_step, sum64, taken};
 ghost use Rattle.rv_emulate.specs.EmulatorMemory.{stored};
 ghost use Rattle.rv_emulate.specs.FlatInstrs.{upper_bits};
 ghost use Rattle.rv_emulate.specs.CpuView.{image_of, instr_of, state_at, Steps};
+ghost use Rattle.rv_emulate.specs.CpuTurns.{Acts};
 
 use crate::access::{load, store};
-use crate::calls::ABSENT;
 use crate::code::Code;
 use crate::end::{CpuEnd, CpuStep};
 use crate::flat::Flat;
@@ -15,13 +17,20 @@ use crate::storage::Storage;
 use crate::values::{extend, extend_bytes, is_taken, value_of_r, wide};
 use crate::what::What;
 use rv_isa::{BOp, ROp};
+use unit_io::UnitSet;
 
 impl Storage {
     /// Does what the instruction at `pc` does, and answers the place of the next one; or says how the
     /// run ends, and changes nothing.
-    pub(crate) fn act(&mut self, code: &Code, f: Flat, pc: u64) -> (u64, CpuStep)
+    pub(crate) fn act<U: UnitSet>(
+        &mut self,
+        code: &Code,
+        f: Flat,
+        pc: u64,
+        units: &mut U,
+    ) -> (u64, CpuStep)
         requires { pc < 2 ^ 62 }
-        ensures { Steps (with_instr (image_of code.now) (instr_of f) (state_at pc self.old)) result.1 (state_at pc self.old) (state_at result.0 self.new) }
+        ensures { Acts (image_of code.now) (instr_of f) result.1 (state_at pc self.old (tapes_of (U.seen units.old))) (state_at result.0 self.new (tapes_of (U.seen units.new))) (U.seen units.old) (U.seen units.new) }
     {
         let x = self.read(f.rs1);
         let y = self.read(f.rs2);
@@ -90,7 +99,7 @@ impl Storage {
             What::Lui => self.next(f.rd, upper(f.imm), pc),
             What::Auipc => self.next(f.rd, pc.wrapping_add(upper(f.imm)), pc),
             What::Jal => self.jump(f.rd, pc.wrapping_add(z), pc),
-            What::Ecall => self.call(code, pc),
+            What::Ecall => self.call(code, pc, units),
             What::Illegal => (pc, CpuStep::Ended(CpuEnd::Illegal(pc))),
         }
     }
@@ -100,7 +109,7 @@ impl Storage {
     fn next(&mut self, rd: u8, value: u64, pc: u64) -> (u64, CpuStep)
         requires rd { rd < 32 }
         requires room { pc < 2 ^ 62 }
-        ensures { Steps (next_with (state_at pc self.old) rd value) result.1 (state_at pc self.old) (state_at result.0 self.new) }
+        ensures { (tapes : Tapes) → Steps (next_with (state_at pc self.old tapes) rd value) result.1 (state_at pc self.old tapes) (state_at result.0 self.new tapes) }
     {
         self.write(rd, value);
         (pc + 4, CpuStep::Next)
@@ -111,7 +120,7 @@ impl Storage {
     fn compute(&mut self, op: ROp, rd: u8, x: u64, y: u64, pc: u64) -> (u64, CpuStep)
         requires rd { rd < 32 }
         requires room { pc < 2 ^ 62 }
-        ensures { Steps (next_with (state_at pc self.old) rd (r_value op x y)) result.1 (state_at pc self.old) (state_at result.0 self.new) }
+        ensures { (tapes : Tapes) → Steps (next_with (state_at pc self.old tapes) rd (r_value op x y)) result.1 (state_at pc self.old tapes) (state_at result.0 self.new tapes) }
     {
         self.next(rd, value_of_r(op, x, y), pc)
     }
@@ -121,7 +130,7 @@ impl Storage {
     fn jump(&mut self, rd: u8, to: u64, pc: u64) -> (u64, CpuStep)
         requires rd { rd < 32 }
         requires room { pc < 2 ^ 62 }
-        ensures { Steps (jump (state_at pc self.old) rd to) result.1 (state_at pc self.old) (state_at result.0 self.new) }
+        ensures { (tapes : Tapes) → Steps (jump (state_at pc self.old tapes) rd to) result.1 (state_at pc self.old tapes) (state_at result.0 self.new tapes) }
     {
         self.write(rd, pc + 4);
         (to, CpuStep::Next)
@@ -133,7 +142,7 @@ impl Storage {
         requires width { (width ≡ 1) ⊎ (width ≡ 2) ⊎ (width ≡ 4) ⊎ (width ≡ 8) }
         requires rd { rd < 32 }
         requires room { pc < 2 ^ 62 }
-        ensures { Steps (loads (image_of code.now) (state_at pc self.old) rd width address) result.1 (state_at pc self.old) (state_at result.0 self.new) }
+        ensures { (tapes : Tapes) → Steps (loads (image_of code.now) (state_at pc self.old tapes) rd width address) result.1 (state_at pc self.old tapes) (state_at result.0 self.new tapes) }
     {
         match load(&code.constants, &self.memory, width, address) {
             Some(value) => self.next(rd, value, pc),
@@ -154,7 +163,7 @@ impl Storage {
         requires width { (width ≡ 1) ⊎ (width ≡ 2) ⊎ (width ≡ 4) }
         requires rd { rd < 32 }
         requires room { pc < 2 ^ 62 }
-        ensures { Steps (loads_signed (image_of code.now) (state_at pc self.old) rd width address) result.1 (state_at pc self.old) (state_at result.0 self.new) }
+        ensures { (tapes : Tapes) → Steps (loads_signed (image_of code.now) (state_at pc self.old tapes) rd width address) result.1 (state_at pc self.old tapes) (state_at result.0 self.new tapes) }
     {
         match load(&code.constants, &self.memory, width, address) {
             Some(value) => self.next(rd, extend_bytes(width, value), pc),
@@ -167,27 +176,12 @@ impl Storage {
     fn store(&mut self, width: usize, address: u64, value: u64, pc: u64) -> (u64, CpuStep)
         requires width { (width ≡ 1) ⊎ (width ≡ 2) ⊎ (width ≡ 4) ⊎ (width ≡ 8) }
         requires room { pc < 2 ^ 62 }
-        ensures { Steps (store_step (state_at pc self.old) (stored (state_at pc self.old).memory width address value)) result.1 (state_at pc self.old) (state_at result.0 self.new) }
+        ensures { (tapes : Tapes) → Steps (store_step (state_at pc self.old tapes) (stored (state_at pc self.old tapes).memory width address value)) result.1 (state_at pc self.old tapes) (state_at result.0 self.new tapes) }
     {
         if store(&mut self.memory, width, address, value) {
             (pc + 4, CpuStep::Next)
         } else {
             (pc, CpuStep::Ended(CpuEnd::Store(pc)))
-        }
-    }
-
-    /// Makes a call: one on a unit is answered, and any other ends the run.
-    fn call(&mut self, code: &Code, pc: u64) -> (u64, CpuStep)
-        requires { pc < 2 ^ 62 }
-        ensures { Steps (ecall (image_of code.now) (state_at pc self.old)) result.1 (state_at pc self.old) (state_at result.0 self.new) }
-    {
-        if self.is_unit_call(&code.constants) {
-            self.write(10, ABSENT);
-            self.failed = None;
-            (pc + 4, CpuStep::Next)
-        } else {
-            let end = self.end_of_call(code.places.len() as u64, pc);
-            (pc, CpuStep::Ended(end))
         }
     }
 }

@@ -1,25 +1,59 @@
 // Calls, by their numbers in a7 and their operands in a0 to a5.
 
 ghost use Rattle.std.specs.Prelude.{◌≡◌, ◌<◌, ◌^◌, length};
-ghost use Rattle.rv_emulate.specs.EmulatorStates.{register};
+ghost use Rattle.unit_io.specs.Units.{tapes_of};
+ghost use Rattle.rv_emulate.specs.EmulatorStates.{register, with_register};
+ghost use Rattle.rv_emulate.specs.EmulatorSteps.{ecall, failed_unit};
 ghost use Rattle.rv_emulate.specs.EmulatorMemory.{can_load, can_store};
 ghost use Rattle.rv_emulate.specs.Ecalls.{call, can_take, is_unit_call, unit_fault};
-ghost use Rattle.rv_emulate.specs.CpuView.{memory_of};
+ghost use Rattle.rv_emulate.specs.CpuView.{image_of, memory_of, state_at};
+ghost use Rattle.rv_emulate.specs.CpuTurns.{IsTurn};
 
-use crate::end::CpuEnd;
+use crate::answers::Answer;
+use crate::code::Code;
+use crate::end::{CpuEnd, CpuStep};
 use crate::memory::{Regions, holds};
 use crate::storage::Storage;
 use sil_base::{
     FIRST_CELL, FIRST_CONSTANT, FIRST_KIND, FIRST_SCRATCH, FIRST_TABLE, MAX_FORMAT_BYTES,
     MAX_LIST_ITEMS, MAX_VALUE_CHARACTERS,
 };
-
-/// The answer of a call on a unit that is absent.
-pub(crate) const ABSENT: u64 = 4;
+use unit_calls::unit_number;
+use unit_io::UnitSet;
 
 impl Storage {
+    /// Makes a call: one on a unit is answered, and any other ends the run.
+    #[inline(never)]
+    pub(crate) fn call<U: UnitSet>(&mut self, code: &Code, pc: u64, units: &mut U) -> (u64, CpuStep)
+        requires { pc < 2 ^ 62 }
+        ensures { IsTurn code.now.constants.items (ecall (image_of code.now) (state_at pc self.old (tapes_of (U.seen units.old)))) result.1 (state_at pc self.old (tapes_of (U.seen units.old))) (state_at result.0 self.new (tapes_of (U.seen units.new))) (U.seen units.old) (U.seen units.new) }
+    {
+        if !self.is_unit_call(&code.constants) {
+            let end = self.end_of_call(code.places.len() as u64, pc);
+            return (pc, CpuStep::Ended(end));
+        }
+        let n = unit_number(self.registers[10]);
+        match self.call_unit(code, n, units) {
+            Some(answer) => {
+                self.take_answer(answer, n);
+                (pc + 4, CpuStep::Next)
+            }
+            None => (pc, CpuStep::Ended(CpuEnd::Memory)),
+        }
+    }
+
+    /// Takes the answer of a call on unit n: its number into a0, and whether the call failed.
+    fn take_answer(&mut self, answer: Answer, n: u32)
+        ensures registers { self.new.registers ≡ with_register self.old.registers 10 answer.number }
+        ensures memory { self.new.memory ≡ self.old.memory }
+        ensures failed { self.new.failed ≡ failed_unit answer.failed n }
+    {
+        self.write(10, answer.number);
+        self.failed = if answer.failed { Some(n) } else { None };
+    }
+
     /// Whether this is a call on a unit that can be made.
-    pub(crate) fn is_unit_call(&self, constants: &[u8]) -> bool
+    fn is_unit_call(&self, constants: &[u8]) -> bool
         ensures { result ≡ is_unit_call constants.now (memory_of self.now.memory) self.now.registers }
     {
         let xs = &self.registers;
@@ -36,7 +70,7 @@ impl Storage {
     }
 
     /// The end of any other call at `pc`, under this number of statements.
-    pub(crate) fn end_of_call(&self, count: u64, pc: u64) -> CpuEnd
+    fn end_of_call(&self, count: u64, pc: u64) -> CpuEnd
         requires { count < 2 ^ 32 }
         ensures { result ≡ call count (register self.now.registers 17) (register self.now.registers 10) (register self.now.registers 26) self.now.failed pc }
     {

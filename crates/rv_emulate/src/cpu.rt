@@ -1,13 +1,15 @@
 // The emulator as its callers see it.
 
-ghost use Rattle.std.specs.Prelude.{◌≡◌, ◌==◌, ◌<◌, ◌^◌, Some, IfSome, length, true};
+ghost use Rattle.std.specs.Prelude.{◌≡◌, ◌≢◌, ◌==◌, ◌<◌, ◌^◌, ◌⊎◌, ℕ, Some, IfSome, IsSome, length, true};
 ghost use Rattle.std.specs.List.{position_from};
 ghost use Rattle.unit_io.specs.Tapes.{Tapes};
-ghost use Rattle.unit_io.specs.Units.{tapes_of};
+ghost use Rattle.unit_io.specs.Units.{RoseAt, tapes_of};
 ghost use Rattle.image_file.specs.Image.{Image};
 ghost use Rattle.rv_emulate.specs.Ranges.{Rises};
 ghost use Rattle.rv_emulate.specs.EmulatorSteps.{step};
 ghost use Rattle.rv_emulate.specs.EmulatorRuns.{run, on_state, end_of, met_now};
+ghost use Rattle.rv_emulate.specs.CpuTurns.{KeepsUnits};
+ghost use Rattle.rv_emulate.specs.CutRuns.{IsCutAt, IsCutWithin};
 ghost use Rattle.rv_emulate.specs.Cpus.{IsOf, SameImage, IfEnded, stands, state, answer_of, is_told};
 
 use crate::code::Code;
@@ -25,6 +27,7 @@ pub struct Cpu {
 }
 
 impl Model for Cpu {
+    ghost use Rattle.rv_emulate.specs.CutRuns.{IsCutAt, IsCutWithin};
     ghost use Rattle.rv_emulate.specs.Cpus.{CpuState};
     ghost use Rattle.rv_emulate.specs.CpuView.{view_of};
 
@@ -38,16 +41,21 @@ impl Cpu {
     pub fn step<U: UnitSet>(&mut self, units: &mut U) -> CpuStep
         ensures stands { (image : Image) → IsOf image self.old
             → let outcome = on_state (stands self.old (tapes_of (U.seen units.old))) (step image)
-            in is_told outcome ≡ true → stands self.new (tapes_of (U.seen units.new)) ≡ outcome }
+            in result ≢ CpuStep.Ended CpuEnd.Memory → is_told outcome ≡ true → stands self.new (tapes_of (U.seen units.new)) ≡ outcome }
         ensures answer { result ≡ answer_of self.new.ended }
         ensures ended { IfEnded result (λ e. self.new ≡ record self.old { ended = Some e }) }
         ensures image { SameImage self.old self.new }
-        ensures units { U.seen units.new ≡ U.seen units.old }
+        ensures rests { IsSome self.old.ended → U.seen units.new ≡ U.seen units.old }
+        ensures units { KeepsUnits (U.seen units.old) (U.seen units.new) }
+        ensures failed { (n : ℕ) → self.new.failed ≡ Some n → (self.old.failed ≡ Some n) ⊎ RoseAt n (U.seen units.old) (U.seen units.new) }
+        ensures faults { (k unit : ℕ) → result ≡ CpuStep.Ended (CpuEnd.UnitFault k unit) → IsSome self.old.ended ⊎ (self.old.failed ≡ Some unit) }
+        ensures cut { result ≡ CpuStep.Ended CpuEnd.Memory → IsSome self.old.ended ⊎ ((image : Image) → IsOf image self.old
+            → IsCutAt image (state self.old (tapes_of (U.seen units.old))) (tapes_of (U.seen units.new))) }
     {
         if let Some(end) = self.ended {
             return CpuStep::Ended(end);
         }
-        let step = self.hart.step(&self.code);
+        let step = self.hart.step(&self.code, units);
         if let CpuStep::Ended(end) = step {
             self.ended = Some(end);
         }
@@ -59,15 +67,20 @@ impl Cpu {
     pub fn run<U: UnitSet>(&mut self, units: &mut U, budget: u128) -> CpuEnd
         ensures stands { (image : Image) → IsOf image self.old
             → let outcome = on_state (stands self.old (tapes_of (U.seen units.old))) (run image budget)
-            in is_told outcome ≡ true → (stands self.new (tapes_of (U.seen units.new)) ≡ outcome)
+            in result ≢ CpuEnd.Memory → is_told outcome ≡ true → (stands self.new (tapes_of (U.seen units.new)) ≡ outcome)
             × (end_of outcome ≡ Some result) }
         ensures image { SameImage self.old self.new }
-        ensures units { U.seen units.new ≡ U.seen units.old }
+        ensures rests { IsSome self.old.ended → U.seen units.new ≡ U.seen units.old }
+        ensures units { KeepsUnits (U.seen units.old) (U.seen units.new) }
+        ensures failed { (n : ℕ) → self.new.failed ≡ Some n → (self.old.failed ≡ Some n) ⊎ RoseAt n (U.seen units.old) (U.seen units.new) }
+        ensures faults { (k unit : ℕ) → result ≡ CpuEnd.UnitFault k unit → IsSome self.old.ended ⊎ ((self.old.failed ≡ Some unit) ⊎ RoseAt unit (U.seen units.old) (U.seen units.new)) }
+        ensures cut { result ≡ CpuEnd.Memory → IsSome self.old.ended ⊎ ((image : Image) → IsOf image self.old
+            → IsCutWithin image budget (state self.old (tapes_of (U.seen units.old))) (tapes_of (U.seen units.new))) }
     {
         if let Some(end) = self.ended {
             return end;
         }
-        self.ended = self.hart.run(&self.code, budget);
+        self.ended = self.hart.run(&self.code, units, budget);
         self.ended.unwrap_or(CpuEnd::Runaway)
     }
 

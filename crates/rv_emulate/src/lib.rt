@@ -3,6 +3,7 @@
 
 mod access;
 mod act;
+mod answers;
 mod bytes;
 mod calls;
 mod code;
@@ -11,6 +12,9 @@ mod end;
 mod flat;
 mod hart;
 mod memory;
+mod on_units;
+mod operands;
+mod pieces;
 mod run;
 mod start;
 mod step;

@@ -154,6 +154,7 @@ fn code_of(alloc: Global, image: &Image) -> Result<Code, AllocError>
         flats: flats(alloc, image.words())?,
         constants: Vec::from_slice(alloc, image.constants())?,
         places: places(alloc, image)?,
+        alloc,
     })
 }
 

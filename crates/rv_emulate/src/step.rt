@@ -1,7 +1,9 @@
 // One instruction.
 
 ghost use Rattle.std.specs.Prelude.{◌≡◌, ◌<◌, ◌^◌, IfSome, option_map, map};
-ghost use Rattle.rv_emulate.specs.CpuView.{code_step, instr_at, instr_of, state_at, state_of, Steps};
+ghost use Rattle.unit_io.specs.Units.{tapes_of};
+ghost use Rattle.rv_emulate.specs.CpuView.{instr_at, instr_of, state_at, state_of};
+ghost use Rattle.rv_emulate.specs.CpuTurns.{IsStep};
 
 use crate::code::Code;
 use crate::end::{CpuEnd, CpuStep};
@@ -9,28 +11,28 @@ use crate::flat::Flat;
 use crate::hart::Hart;
 use crate::storage::Storage;
 use sil_base::FIRST_WORD;
+use unit_io::UnitSet;
 
 impl Hart {
-    /// Makes one step, or says how the run ends and changes nothing.
-    pub(crate) fn step(&mut self, code: &Code) -> CpuStep
-        ensures { Steps (code_step code.now (state_of self.old)) result (state_of self.old) (state_of self.new) }
+    /// Makes one step, or says how the run ends.
+    pub(crate) fn step<U: UnitSet>(&mut self, code: &Code, units: &mut U) -> CpuStep
+        ensures { IsStep code.now result (state_of self.old (tapes_of (U.seen units.old))) (state_of self.new (tapes_of (U.seen units.new))) (U.seen units.old) (U.seen units.new) }
     {
-        let (to, step) = self.storage.turn(code, self.pc);
+        let (to, step) = self.storage.turn(code, self.pc, units);
         self.pc = to;
         step
     }
 }
 
 impl Storage {
-    /// Makes the step at `pc`, and answers the place of the next one; or stays there, says how the run
-    /// ends, and changes nothing.
-    #[tactic(auto, unfolding(crate::specs::CpuView::code_step))]
-    pub(crate) fn turn(&mut self, code: &Code, pc: u64) -> (u64, CpuStep)
-        ensures { Steps (code_step code.now (state_at pc self.old)) result.1 (state_at pc self.old) (state_at result.0 self.new) }
+    /// Makes the step at `pc`, and answers the place of the next one; or stays there and says how the
+    /// run ends.
+    pub(crate) fn turn<U: UnitSet>(&mut self, code: &Code, pc: u64, units: &mut U) -> (u64, CpuStep)
+        ensures { IsStep code.now result.1 (state_at pc self.old (tapes_of (U.seen units.old))) (state_at result.0 self.new (tapes_of (U.seen units.new))) (U.seen units.old) (U.seen units.new) }
     {
         match fetch(code, pc) {
             None => (pc, CpuStep::Ended(CpuEnd::Fetch(pc))),
-            Some(f) => self.act(code, f, pc),
+            Some(f) => self.act(code, f, pc, units),
         }
     }
 }

@@ -51,7 +51,7 @@ module _ (image : Image) (last : ℕ) (g : Setting) (places : Places) (prints : 
   does_after (To target u) h = (h.0, behind false (emulator.On h.0) h.1, h.2, h.3)
   does_after (ToReturn entry u) h = back_after u (return_place g places u entry) h
   does_after (Over (Some end) u) h = behind false _ h
-  does_after (Over None u) h = tt
+  does_after (Over None u) h = behind prints _ h
   does_after Stuck h = tt
 
 -- fewer instructions serve
@@ -64,7 +64,7 @@ does_within image last g places prints next s a most (ToReturn entry u) le h = b
     back None h = comes_within image last false a most s _ h le
     back (Some place) h = (h.0, comes_within image last false a most s (emulator.On h.0) h.1 le, h.2, h.3)
 does_within image last g places prints next s a most (Over (Some end) u) le h = comes_within image last false a most s _ h le
-does_within image last g places prints next s a most (Over None u) le h = tt
+does_within image last g places prints next s a most (Over None u) le h = comes_within image last prints a most s _ h le
 does_within image last g places prints next s a most Stuck le h = tt
 
 -- a micro register is moved to a temporary

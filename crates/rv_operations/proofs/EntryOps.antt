@@ -5,7 +5,8 @@ use Rattle.std.specs.Int.{w64, cast_signed, cast_unsigned}
 use Rattle.std.proofs.lemmas.Int.{to_z-of_z}
 use Rattle.sil_model.specs.Access.{◌>>=◌}
 use Rattle.sil_micro.specs.MicroStates.{Setting, Micro, held}
-use Rattle.sil_micro.specs.Operations.{entered_statement, jump_entry}
+use Rattle.sil_model.specs.Entries.{entered_statement}
+use Rattle.sil_micro.specs.Operations.{jump_entry}
 use Rattle.image_file.specs.Image.{Image}
 use Rattle.rv_emulate.specs.declared.end.CpuEnd.TheVariants.{Undefined}
 use Rattle.rv_emulate.specs.EmulatorStates.{State, On, Ended, register}

@@ -26,5 +26,7 @@ pub mod TableBytes
 pub mod TableStores
 pub mod TableOps
 pub mod UnitTests
+pub mod UnitBytes
+pub mod ReadBytes
 pub mod UnitOps
 pub mod UnitCases

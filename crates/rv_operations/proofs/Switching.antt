@@ -5,7 +5,7 @@ use Rattle.std.specs.Int.{w64, cast_signed}
 use Rattle.std.proofs.lemmas.Nat.{le-div}
 use Rattle.sil_base.specs.declared.places.TheConstants.{FIRST_ENTRY}
 use Rattle.sil_model.specs.Access.{◌>>=◌}
-use Rattle.sil_micro.specs.Operations.{entered_statement}
+use Rattle.sil_model.specs.Entries.{entered_statement}
 use Rattle.rv_isa.specs.InstrWords.{twos}
 use Rattle.image_file.specs.Image.{Image}
 use Rattle.rv_emulate.specs.declared.end.CpuEnd.TheVariants.{Undefined}

@@ -1,4 +1,4 @@
--- Calls on units that can be made, by what their registers hold.
+-- Calls on units that can be made, and what they make, by what their registers hold.
 use Rattle.std.proofs.Common.{◌≡◌, ℕ, zero, suc, ◌+◌, ◌*◌, ◌^◌, ◌<◌, ◌≤◌, ◌⊎◌, inl, inr, List, [], ◌∷◌, length, take, Option, Some, None, Bool, true, false, cond, ◌==◌, ◌&&◌, ◌||◌, refl, sym, ap, ◌∙◌, arith, length-append}
 use Rattle.std.specs.Prelude.{ℤ, pos, negsuc, nat_le, is_some, option_and_then, slice_get, sum_by, FitsSigned}
 use Rattle.std.specs.List.{flat_map, fold}
@@ -7,15 +7,20 @@ use Rattle.std.proofs.lemmas.Int.{to_z-of_z}
 use Rattle.std.proofs.lemmas.Nat.{mul-le}
 use Rattle.sil_base.specs.declared.limits.TheConstants.{SCRATCH_BYTES}
 use Rattle.sil_base.specs.declared.places.TheConstants.{FIRST_CELL, FIRST_CONSTANT, FIRST_SCRATCH}
+use Rattle.sil_format.specs.declared.value.Value.{Value}
+use Rattle.sil_format.specs.declared.value.Laid.{Laid}
+use Rattle.sil_format.specs.declared.value.Laid.TheVariants.{Records, Real, Unfit}
+use Rattle.unit_io.specs.Tapes.{TapeState, rewound, backspaced, ended, next_fails, writes_fail}
+use Rattle.unit_calls.specs.CallsMade.{Made, moved, printed, print_on, laid_by, read}
 use Rattle.layout_params.specs.Sizes.{Sizes}
 use Rattle.layout_params.proofs.LegalLayouts.{IsLegal}
 use Rattle.sil_model.specs.Memory as abstract
 use Rattle.sil_model.specs.Access.{char_at}
 use Rattle.sil_model.specs.Integers.{wrapped_sum, ◌⊞◌}
 use Rattle.sil_micro.specs.UnitCalls.{chars_from}
-use Rattle.rv_emulate.specs.EmulatorMemory.{Memory, can_store, can_load, holds}
+use Rattle.rv_emulate.specs.EmulatorMemory.{Memory, bytes_at, can_store, can_load, holds}
 use Rattle.rv_emulate.specs.EmulatorStates.{register}
-use Rattle.rv_emulate.specs.Ecalls.{can_read, can_take, can_write, is_unit_call}
+use Rattle.rv_emulate.specs.Ecalls.{can_read, can_take, can_write, is_unit_call, made_by, values_at}
 use Rattle.rv_routines.specs.Holds.{HoldsMemory}
 use Rattle.rv_routines.specs.Tests.{cell_around, with_chars}
 use Rattle.rv_routines.proofs.Cells.{place_of_byte}
@@ -50,6 +55,43 @@ writes_call constants m ys at len a3 a4 a5 e7 e1 e2 e3 e4 e5 short text values =
   where
     three : (a b c : Bool) → a ≡ true → b ≡ true → c ≡ true → (a && b && c) ≡ true
     three a b c x y z = rw (x, y, z) refl
+
+-- ---- what a call makes on a unit, by the number of the call
+
+abbrev pub made_of : List ℕ → Memory → List ℕ → TapeState → ℕ → Made
+made_of constants m ys t a7 =
+    cond (a7 == 2) (read t) (cond (a7 == 3) (print_on (bytes_at constants m (register ys 12) (register ys 11)) (values_at constants m (register ys 13) (register ys 14) (register ys 15)) t) (cond (a7 == 4) (moved rewound t) (cond (a7 == 5) (moved backspaced t) (moved ended t))))
+
+pub made_as : (constants : List ℕ) (m : Memory) (ys : List ℕ) (t : TapeState) (call : ℕ) → register ys 17 ≡ call → made_by constants m ys t ≡ made_of constants m ys t call
+made_as constants m ys t call e = ap (made_of constants m ys t) e
+
+abbrev print_of : List ℕ → Memory → TapeState → ℕ → ℕ → ℕ → ℕ → ℕ → Made
+print_of constants m t at len a3 a4 a5 = print_on (bytes_at constants m len at) (values_at constants m a3 a4 a5) t
+
+pub prints_made : (constants : List ℕ) (m : Memory) (ys : List ℕ) (t : TapeState) (at len a3 a4 a5 : ℕ) → register ys 17 ≡ 3 → register ys 11 ≡ at → register ys 12 ≡ len → register ys 13 ≡ a3 → register ys 14 ≡ a4 → register ys 15 ≡ a5 → made_by constants m ys t ≡ print_on (bytes_at constants m len at) (values_at constants m a3 a4 a5) t
+prints_made constants m ys t at len a3 a4 a5 e7 e1 e2 e3 e4 e5 =
+    made_as constants m ys t 3 e7
+    ∙ ap (λ a. print_of constants m t a (register ys 12) (register ys 13) (register ys 14) (register ys 15)) e1
+    ∙ ap (λ a. print_of constants m t at a (register ys 13) (register ys 14) (register ys 15)) e2
+    ∙ ap (λ a. print_of constants m t at len a (register ys 14) (register ys 15)) e3
+    ∙ ap (λ a. print_of constants m t at len a3 a (register ys 15)) e4
+    ∙ ap (λ a. print_of constants m t at len a3 a4 a) e5
+
+few_answers : (b : Bool) → cond b 1 0 ≤ 4
+few_answers true = omega arith
+few_answers false = omega arith
+
+pub moved_few : (change : TapeState → TapeState) (t : TapeState) → (moved change t).answer ≤ 4
+moved_few change t = few_answers (next_fails t)
+
+printed_few : (o : Option Laid) (t : TapeState) → (printed o t).answer ≤ 4
+printed_few None t = omega arith
+printed_few (Some Unfit) t = omega arith
+printed_few (Some Real) t = omega arith
+printed_few (Some (Records records)) t = few_answers (writes_fail records t)
+
+pub print_few : (text : List ℕ) (values : List Value) (t : TapeState) → (print_on text values t).answer ≤ 4
+print_few text values t = printed_few (laid_by text values) t
 
 -- ---- bytes that can be written and read
 
@@ -111,20 +153,20 @@ format_load constants m formats i text is e = constants_load constants m (length
 -- ---- characters lie in the cells
 
 -- no characters, or so many from an address on in the cells
-abbrev AreWithin : abstract.Memory → ℕ → ℕ → ℕ → Type 0
+abbrev pub AreWithin : abstract.Memory → ℕ → ℕ → ℕ → Type 0
 AreWithin mm d x n = (n ≡ 0) ⊎ ((FIRST_CELL ≤ x) × (x + n ≤ FIRST_CELL + length mm.cells * d))
 
-next_address : (x : ℕ) → x < 2 ^ 62 → pos x ⊞ pos 1 ≡ pos (x + 1)
+pub next_address : (x : ℕ) → x < 2 ^ 62 → pos x ⊞ pos 1 ≡ pos (x + 1)
 unfolding wrapped_sum
 next_address x h = grind arith
 
-fits_signed : (x : ℕ) → x < 2 ^ 63 → FitsSigned w64 (pos x)
+pub fits_signed : (x : ℕ) → x < 2 ^ 63 → FitsSigned w64 (pos x)
 fits_signed x h = record { sfits = omega arith }
 
-abbrev chars_after : abstract.Memory → ℤ → ℕ → Option ℕ → Option (List ℕ)
+abbrev pub chars_after : abstract.Memory → ℤ → ℕ → Option ℕ → Option (List ℕ)
 chars_after mm z n o = option_and_then (λ c. option_and_then (λ rest. Some (c ∷ rest)) (chars_from mm (z ⊞ pos 1) n)) o
 
-chars_step : (mm : abstract.Memory) (z : ℤ) (n : ℕ) → chars_from mm z (suc n) ≡ chars_after mm z n (char_at mm z)
+pub chars_step : (mm : abstract.Memory) (z : ℤ) (n : ℕ) → chars_from mm z (suc n) ≡ chars_after mm z n (char_at mm z)
 unfolding chars_from
 chars_step mm z n = refl
 
@@ -149,7 +191,7 @@ module _ (sizes : Sizes) (l : IsLegal sizes) (mm : abstract.Memory) (m : Memory)
           let w = place_of_byte mm d x t.0 t.1 h.limit l.least l.most h.valid.count (omega (arith, small)) here.place in
           (omega (arith, w.address), omega (arith, w.address, w.place, w.inside))
 
-  chars_within : (n x : ℕ) → x < 2 ^ 63 → is_some (chars_from mm (pos x) n) ≡ true → AreWithin mm d x n
+  pub chars_within : (n x : ℕ) → x < 2 ^ 63 → is_some (chars_from mm (pos x) n) ≡ true → AreWithin mm d x n
   chars_within zero x small e = inl refl
   chars_within (suc n) x small e = by (λ y. chars_within n y) (char_at mm (pos x)) refl (sym (ap is_some (chars_step mm (pos x) n)) ∙ e)
     where
@@ -167,7 +209,7 @@ module _ (sizes : Sizes) (l : IsLegal sizes) (mm : abstract.Memory) (m : Memory)
           let next = again (x + 1) (omega (arith, low)) (ap (λ z. is_some (chars_from mm z n)) (sym (next_address x low)) ∙ more) in
           elim next [ inl none ↦ inr (here.0, omega (arith, here.1, none)) | inr w ↦ inr (here.0, omega (arith, w.1)) ]
 
-  none_of : (n k : ℕ) → is_some (chars_from mm (negsuc k) (suc n)) ≡ true → ⊥
+  pub none_of : (n k : ℕ) → is_some (chars_from mm (negsuc k) (suc n)) ≡ true → ⊥
   none_of n k e = let no : is_some (chars_from mm (negsuc k) (suc n)) ≡ false = ap is_some (chars_step mm (negsuc k) n) ∙ ap (λ o. is_some (chars_after mm (negsuc k) n o)) (no_char mm k) in absurd cc
 
   -- the characters from an address on can be written over

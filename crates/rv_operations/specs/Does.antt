@@ -5,7 +5,8 @@ use Rattle.sil_model.specs.declared.end.End.{End}
 use Rattle.sil_model.specs.declared.end.End.TheVariants as ends
 use Rattle.sil_model.specs.Access.{◌>>=◌}
 use Rattle.sil_micro.specs.MicroStates.{Setting, Micro}
-use Rattle.sil_micro.specs.Operations.{Effect, On, To, ToReturn, Over, Stuck, entered_statement}
+use Rattle.sil_model.specs.Entries.{entered_statement}
+use Rattle.sil_micro.specs.Operations.{Effect, On, To, ToReturn, Over, Stuck}
 use Rattle.image_file.specs.Image.{Image}
 use Rattle.rv_isa.specs.declared.instr.Instr.{Instr}
 use Rattle.rv_emulate.specs.declared.end.CpuEnd.{CpuEnd}
@@ -41,13 +42,13 @@ return_place g places u entry = do
   k ← entered_statement u.state.memory.limits.cell_size g.statements entry
   places.returns k
 
--- within so many instructions the run from s does what an operation does: it comes to the next operation, to that of a jump, or to the return part of an entry, in a state that stands for the new micro state, or it ends as the operation ends; of an operation that is stuck nothing is said, nor of a call on a unit that isn't told
+-- within so many instructions the run from s does what an operation does: it comes to the next operation, to that of a jump, or to the return part of an entry, in a state that stands for the new micro state, or it ends as the operation ends, with no end where it calls a unit that doesn't tell its tape; of an operation that is stuck nothing is said
 abbrev pub Does : Image → ℕ → Setting → Places → Bool → ℕ → ℕ → State → Effect → Type 0
 Does image last g places prints most next s (On u) = ComesFor image last g prints most next s u
 Does image last g places prints most next s (To target u) = ComesFor image last g false most (target_place places target) s u
 Does image last g places prints most next s (ToReturn entry u) = ComesBack image last g most s u (return_place g places u entry)
 Does image last g places prints most next s (Over (Some end) u) = Comes image last false most s (Ended (Some (as_end end)) u.state.tapes)
-Does image last g places prints most next s (Over None u) = Unit {0}
+Does image last g places prints most next s (Over None u) = Comes image last prints most s (Ended None u.state.tapes)
 Does image last g places prints most next s Stuck = Unit {0}
 
 -- the words of a Begin are what a state runs next that stands for u, in which any number may stand as that of the statement

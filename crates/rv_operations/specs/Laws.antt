@@ -95,7 +95,7 @@ LawOfEnd =
     → by < 16 → Begins image last g (end_code by) u s
     → Does image last g places false 3 (s.pc + 12) s (act g (End by) u)
 
--- a call on an absent unit is answered within 11; one that can't be made is stuck, and of one on an attached unit nothing is said
+-- a call on an absent unit, and one that prints or moves a unit that tells its tape, is answered within 11; one that can't be made is stuck; of a read nothing is said
 abbrev pub LawOfUnitCall : Type 0
 LawOfUnitCall =
     (image : Image) (last : ℕ) (g : Setting) (places : Places) (call unit to : ℕ) (text : Text) (values : Values) (u : Micro) (s : State)

@@ -10,7 +10,8 @@ use Rattle.rv_isa.specs.declared.instr.Instr.TheVariants.{R, I, B, U, Ecall}
 use Rattle.sil_model.specs.Access.{◌>>=◌}
 use Rattle.sil_micro.specs.declared.op.Op.TheVariants.{JumpEntry, JumpReturn}
 use Rattle.sil_micro.specs.MicroStates.{Setting, Micro}
-use Rattle.sil_micro.specs.Operations.{entered_statement, act}
+use Rattle.sil_model.specs.Entries.{entered_statement}
+use Rattle.sil_micro.specs.Operations.{act}
 use Rattle.image_file.specs.Image.{Image}
 use Rattle.rv_emulate.specs.declared.end.CpuEnd.TheVariants.{Undefined}
 use Rattle.rv_emulate.specs.EmulatorStates.{State, On, Ended, register}

@@ -77,7 +77,7 @@ module _ (image : Image) (last : ℕ) (s : State) (code : List Instr) (c : IsNex
       let end = end_by by n s.failed pc in
       let word = has image.words code s.pc k Ecall c.stands e in
       let acts : act image Ecall (t k ws m) ≡ Ended (Some end) s.tapes =
-      ap (λ b. cond b (answer (t k ws m)) (ended image (t k ws m))) (no_unit_call image.constants m xs p)
+      ap (λ b. cond b (answer image (t k ws m)) (ended image (t k ws m))) (no_unit_call image.constants m xs p)
       ∙ ap (λ a. Ended (Some (call count a (register xs 10) (register xs 26) s.failed pc)) s.tapes) p
       ∙ ap (λ a. Ended (Some (call count 1 a (register xs 26) s.failed pc)) s.tapes) q
       ∙ ap (λ a. Ended (Some (call count 1 by a s.failed pc)) s.tapes) r

@@ -8,12 +8,14 @@ use Rattle.std.proofs.lemmas.Bool.{cases_lt}
 use Rattle.std.proofs.lemmas.Bool.Decides.{nat_tests}
 use Rattle.std.proofs.lemmas.List.{length_push, length-append, get_or_append_left, map-append, append-nil}
 use Rattle.std.proofs.lemmas.List.Elements.{All-push, All-head, All-tail, All-get_or}
+use Rattle.std.proofs.lemmas.List.Sums.{sum_by_push}
 use Rattle.std.proofs.lemmas.Slice.Eq.{bytes_eq-Decides}
 use Rattle.sil_cards.proofs.Booleans.{both, is_true}
+use Rattle.sil_cards.proofs.FieldLemmas.{operands_within}
 use Rattle.sil_cards.specs.declared.verdict.Verdict.{Verdict}
 use Rattle.sil_cards.specs.declared.verdict.Verdict.TheVariants.{Skipped, Broken, Copies, Taken}
 use Rattle.sil_cards.specs.CardParts.{CardParts}
-use Rattle.sil_cards.specs.Cards.{IsEnd, IsGood, EndsOnce, AreCards, numbers_of, card_at}
+use Rattle.sil_cards.specs.Cards.{IsEnd, IsGood, IsShort, EndsOnce, AreCards, numbers_of, field_bytes, card_at}
 use Rattle.sil_cards.specs.CardFields.{Fields, fields_of, is_comment}
 use Rattle.sil_cards.specs.Readings.{given_cards, given_faults, limited, is_full}
 use Rattle.sil_cards.specs.CardSteps.{AreFirst, IsGoing, HasEnded, StepKeeps, step_of}
@@ -83,6 +85,17 @@ good_card deeper number text h =
     let c = past (not (list_all is_card_byte text)) (Broken 2) _ (not_broken 2) b.1 in
     let f = good_fields deeper (fields_of text) c.1 in
     record { operation = f.operation; not_copy = f.not_copy; not_title = f.not_title; operands = f.operands; label = f.label }
+
+-- the text of such a card is short
+short_text : (n : ℕ) → nat_lt 256 n ≡ false → n ≤ 256
+short_text n h = grind (arith, nat_tests)
+
+pub short_card : (deeper number : ℕ) (text : List ℕ) → verdict deeper text ≡ Taken → IsShort (card_at number text)
+unfolding verdict
+short_card deeper number text h =
+    let a = past (is_comment text) Skipped _ not_skipped h in
+    let b = past (nat_lt 256 (length text)) (Broken 1) _ (not_broken 1) a.1 in
+    omega (arith, short_text (length text) b.0, operands_within text)
 
 -- ---- END
 
@@ -163,8 +176,20 @@ rise_push xs low y numbers above rise k h =
     rw (get_or_append_left xs (y ∷ []) 0 k first, last, get_or-append_seam xs y [] 0) (omega arith))
     (cases_lt (k + 1) (length xs))
 
-pub first_more : (cards : List CardParts) (number : ℕ) (card : CardParts) → AreFirst cards number → card.number ≡ number + 1 → IsGood card → is_word card.operation (codes "END") ≡ false → AreFirst (cards ++ card ∷ []) (number + 1)
-first_more cards number card h e good no_end =
+-- what the fields of a card take of a line with so many bytes
+pub record Takes (card : CardParts) (size : ℕ) : Type 0 where
+  pub short : IsShort card
+  pub within : length card.operands ≤ size
+
+taken_fields : (deeper number size : ℕ) (text : List ℕ) → verdict deeper text ≡ Taken → length text ≤ size → Takes (card_at number text) size
+taken_fields deeper number size text h within =
+    record { short = short_card deeper number text h; within = omega (arith, operands_within text, within) }
+
+more_bytes : (cards : List CardParts) (card : CardParts) (size more : ℕ) → field_bytes cards ≤ size → length card.operands ≤ more → field_bytes (cards ++ card ∷ []) ≤ size + more
+more_bytes cards card size more h within = omega (arith, sum_by_push (λ (c : CardParts). length c.operands) cards card)
+
+pub first_more : (cards : List CardParts) (number size more : ℕ) (card : CardParts) → AreFirst cards number size → card.number ≡ number + 1 → IsGood card → Takes card more → is_word card.operation (codes "END") ≡ false → AreFirst (cards ++ card ∷ []) (number + 1) (size + more)
+first_more cards number size more card h e good takes no_end =
     let above : number < card.number = omega arith in
     let map_is : numbers_of (cards ++ card ∷ []) ≡ numbers_of cards ++ card.number ∷ [] = map-append (λ (c : CardParts). c.number) cards (card ∷ []) in
     let last : card.number ≤ number + 1 = omega arith in
@@ -175,20 +200,22 @@ first_more cards number card h e good no_end =
       rise = rw map_is (rise_push (numbers_of cards) number card.number h.numbers above h.rise);
       numbers = rw map_is (All-push (λ n. n ≤ number + 1) (numbers_of cards) card.number below last);
       few = omega (arith, length_push cards card, h.few);
+      short = All-push IsShort cards card h.short takes.short;
+      bytes = more_bytes cards card size more h.bytes takes.within;
     }
 
-first_same : (cards : List CardParts) (number : ℕ) → AreFirst cards number → AreFirst (cards ++ []) (number + 1)
-first_same cards number h =
+first_same : (cards : List CardParts) (number size more : ℕ) → AreFirst cards number size → AreFirst (cards ++ []) (number + 1) (size + more)
+first_same cards number size more h =
     let below : All (λ n. n ≤ number + 1) (numbers_of cards) = λ k d less. omega (arith, h.numbers k d less) in
     let same = append-nil cards in
-    rw same record { good = h.good; no_end = h.no_end; rise = h.rise; numbers = below; few = omega (arith, h.few) }
+    rw same record { good = h.good; no_end = h.no_end; rise = h.rise; numbers = below; few = omega (arith, h.few); short = h.short; bytes = omega (arith, h.bytes) }
 
-first_given : (deeper : ℕ) (cards : List CardParts) (number : ℕ) (text : List ℕ) (v : Verdict) → AreFirst cards number → v ≡ verdict deeper text → is_end text ≡ false → AreFirst (cards ++ given_cards (number + 1) text v) (number + 1)
-first_given deeper cards number text Skipped h e end = first_same cards number h
-first_given deeper cards number text (Broken rule) h e end = first_same cards number h
-first_given deeper cards number text (Copies name) h e end = first_same cards number h
-first_given deeper cards number text Taken h e end =
-    first_more cards number (card_at (number + 1) text) h refl (good_card deeper (number + 1) text (sym e)) (not_end deeper text (sym e) end)
+first_given : (deeper : ℕ) (cards : List CardParts) (number size more : ℕ) (text : List ℕ) (v : Verdict) → AreFirst cards number size → length text ≤ more → v ≡ verdict deeper text → is_end text ≡ false → AreFirst (cards ++ given_cards (number + 1) text v) (number + 1) (size + more)
+first_given deeper cards number size more text Skipped h within e end = first_same cards number size more h
+first_given deeper cards number size more text (Broken rule) h within e end = first_same cards number size more h
+first_given deeper cards number size more text (Copies name) h within e end = first_same cards number size more h
+first_given deeper cards number size more text Taken h within e end =
+    first_more cards number size more (card_at (number + 1) text) h refl (good_card deeper (number + 1) text (sym e)) (taken_fields deeper (number + 1) more text (sym e) within) (not_end deeper text (sym e) end)
 
 ends_push : (cards : List CardParts) (card : CardParts) → All (λ card. is_word card.operation (codes "END") ≡ false) cards → IsEnd card → EndsOnce (cards ++ card ∷ [])
 ends_push [] card h end = end
@@ -196,14 +223,16 @@ ends_push (first ∷ []) card h end = (All-head (λ card. is_word card.operation
 ends_push (first ∷ next ∷ cards) card h end =
     (All-head (λ card. is_word card.operation (codes "END") ≡ false) first (next ∷ cards) h, ends_push (next ∷ cards) card (All-tail (λ card. is_word card.operation (codes "END") ≡ false) first (next ∷ cards) h) end)
 
-pub cards_end : (cards : List CardParts) (number : ℕ) (card : CardParts) → AreFirst cards number → card.number ≡ number + 1 → IsGood card → IsEnd card → AreCards (cards ++ card ∷ [])
-cards_end cards number card h e good end =
+pub cards_end : (cards : List CardParts) (number size more : ℕ) (card : CardParts) → AreFirst cards number size → card.number ≡ number + 1 → IsGood card → Takes card more → size + more ≤ 2097152 → IsEnd card → AreCards (cards ++ card ∷ [])
+cards_end cards number size more card h e good takes most end =
     let above : number < card.number = omega arith in
     let map_is : numbers_of (cards ++ card ∷ []) ≡ numbers_of cards ++ card.number ∷ [] = map-append (λ (c : CardParts). c.number) cards (card ∷ []) in
     record {
       good = All-push IsGood cards card h.good good;
       ends = ends_push cards card h.no_end end;
       rise = rw map_is (rise_push (numbers_of cards) number card.number h.numbers above h.rise);
+      short = All-push IsShort cards card h.short takes.short;
+      bytes = omega (arith, more_bytes cards card size more h.bytes takes.within, most);
     }
 
 -- ---- one more line
@@ -217,8 +246,9 @@ keeps_going (Broken rule) r h = h
 keeps_going (Copies name) r h = h
 keeps_going Taken r h = h
 
--- what a line gives, from r to s
+-- what a line of so many bytes gives, from r to s
 pub record Gives (r s : Reader) (deeper size : ℕ) (text : List ℕ) (v : Verdict) : Type 0 where
+  pub within : length text ≤ size
   pub verdict : v ≡ limited (is_full s.number s.bytes) (verdict deeper text)
   pub number : s.number ≡ r.number + 1
   pub bytes : s.bytes ≡ r.bytes + size
@@ -230,7 +260,7 @@ going_line r s deeper size text v h g full end =
     let same : v ≡ verdict deeper text = rw full at g.verdict in
     let within = within_limits s.number s.bytes full in
     record {
-      first = rw (g.cards, g.number) (first_given deeper r.cards.items r.number text v h.first same end);
+      first = rw (g.cards, g.number, g.bytes) (first_given deeper r.cards.items r.number r.bytes size text v h.first g.within same end);
       cards_left = within.0;
       bytes_left = within.1;
     }
@@ -284,7 +314,9 @@ ends_clean r s deeper size text v h g full end =
           let taken : verdict deeper text ≡ Taken = end_taken deeper (r.number + 1) text end (rw same at given) in
           let card = card_at (r.number + 1) text in
           let word : IsEnd card = (end_text text end).word in
-          rw (g.cards, same, taken) (cards_end r.cards.items r.number card h.first refl (good_card deeper (r.number + 1) text taken) word);
+          let takes : Takes card size = taken_fields deeper (r.number + 1) size text taken g.within in
+          let most : r.bytes + size ≤ 2097152 = omega (arith, g.bytes, within.1) in
+          rw (g.cards, same, taken) (cards_end r.cards.items r.number r.bytes size card h.first refl (good_card deeper (r.number + 1) text taken) takes most word);
       few = rw g.cards most;
     }
 

@@ -1,5 +1,6 @@
 pub mod Booleans
 pub mod TextLemmas
+pub mod FieldLemmas
 pub mod CardLemmas
 pub mod ReadLemmas
 pub mod AsciiLemmas

@@ -18,7 +18,7 @@ use Rattle.sil_cards.specs.CardParts.{CardParts}
 use Rattle.sil_base.specs.Lines.{without_end}
 use Rattle.sil_base.specs.Names.{is_word}
 use Rattle.sil_cards.specs.CardVerdicts.{verdict}
-use Rattle.sil_cards.specs.Cards.{IsGood, AreCards, numbers_of}
+use Rattle.sil_cards.specs.Cards.{IsGood, IsShort, AreCards, numbers_of, field_bytes}
 use Rattle.sil_cards.specs.Reads.{Read}
 use Rattle.sil_cards.specs.Readings.{reading, answer_of}
 
@@ -55,17 +55,19 @@ StepCopies step.Goes deeper line = (name : List ℕ) → verdict deeper (without
 StepCopies (step.Copies name) deeper line = (verdict deeper (without_end line) ≡ Copies name) × (1 ≤ deeper) × IsAscii name
 StepCopies step.Ends deeper line = Unit {0}
 
--- cards before END, with numbers up to this one
-pub record AreFirst (cards : List CardParts) (number : ℕ) : Type 0 where
+-- cards before END, with numbers up to this one, of lines that have so many bytes
+pub record AreFirst (cards : List CardParts) (number size : ℕ) : Type 0 where
   pub good : All IsGood cards
   pub no_end : All (λ card. is_word card.operation (codes "END") ≡ false) cards
   pub rise : IsStrictlyIncreasing (numbers_of cards)
   pub numbers : All (λ n. n ≤ number) (numbers_of cards)
   pub few : length cards ≤ number
+  pub short : All IsShort cards
+  pub bytes : field_bytes cards ≤ size
 
 -- what is read, before END and within the limits
 pub record IsGoing (r : Reader) : Type 0 where
-  pub first : AreFirst r.cards.items r.number
+  pub first : AreFirst r.cards.items r.number r.bytes
   pub cards_left : r.number ≤ MAX_CARDS
   pub bytes_left : r.bytes ≤ MAX_FILE_BYTES
 

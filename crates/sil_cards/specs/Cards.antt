@@ -1,6 +1,8 @@
 -- Cards, and what holds of those that are read.
-use Rattle.std.specs.Prelude.{◌≡◌, ℕ, true, false, ◌||◌, List, [], ◌∷◌, map, codes, All}
+use Rattle.std.specs.Prelude.{◌≡◌, ℕ, ◌≤◌, true, false, ◌||◌, List, [], ◌∷◌, length, map, codes, All}
+use Rattle.std.specs.List.{sum_by}
 use Rattle.std.specs.List.Sorted.{IsStrictlyIncreasing}
+use Rattle.sil_base.specs.declared.limits.TheConstants.{MAX_FILE_BYTES}
 use Rattle.sil_cards.specs.CardParts.{CardParts}
 use Rattle.sil_cards.specs.CardFields.{fields_of}
 use Rattle.sil_base.specs.Names.{is_word}
@@ -35,8 +37,18 @@ EndsOnce (card ∷ next ∷ cards) = (is_word card.operation (codes "END") ≡ f
 abbrev pub numbers_of : List CardParts → List ℕ
 numbers_of cards = map (λ card. card.number) cards
 
--- cards that break no rule, with numbers that rise
+-- the operand field has at most so many bytes as a card may have
+abbrev pub IsShort : CardParts → Type 0
+IsShort card = length card.operands ≤ 256
+
+-- the bytes of all operand fields
+abbrev pub field_bytes : List CardParts → ℕ
+field_bytes cards = sum_by (λ card. length card.operands) cards
+
+-- cards that break no rule, with numbers that rise, and within the limits on bytes
 pub record AreCards (cards : List CardParts) : Type 0 where
   pub good : All IsGood cards
   pub ends : EndsOnce cards
   pub rise : IsStrictlyIncreasing (numbers_of cards)
+  pub short : All IsShort cards
+  pub bytes : field_bytes cards ≤ MAX_FILE_BYTES

@@ -1,96 +1,211 @@
 -- Which codes an ending can have, and what the finishes and the notes make of them.
-use Rattle.std.proofs.Common.{◌≡◌, ◌≢◌, ℕ, ◌≤◌, Bool, true, false, ◌||◌, ◌==◌, nat_le, nat_lt, if◌then◌else◌, ◌⊎◌, inl, inr, refl, sym, ap, ◌∙◌, arith}
+use Rattle.std.proofs.Common.{◌≡◌, ◌≢◌, ℕ, ◌≤◌, Bool, true, false, ◌||◌, ◌&&◌, ◌==◌, nat_le, nat_lt, if◌then◌else◌, ◌⊎◌, inl, inr, refl, sym, ap, ◌∙◌, arith}
 use Rattle.std.proofs.lemmas.Bool.Decides.{nat_tests}
 use Rattle.sil_base.specs.Causes.{Rose}
+use Rattle.unit_io.specs.Tapes.{all_told}
+use Rattle.unit_io.specs.Units.{AllUnits, tapes_of}
 use Rattle.sil_base.specs.declared.sink.Put.{Put}
 use Rattle.sil_base.specs.declared.sink.Put.TheVariants.{Ok, Failed, Memory}
 use Rattle.rv_emulate.specs.declared.end.CpuEnd.{CpuEnd}
 use Rattle.rv_emulate.specs.declared.end.CpuEnd.TheVariants as run
-use Rattle.sil_cli.specs.declared.ending.Ending.{Ending}
-use Rattle.sil_cli.specs.declared.ending.Ending.TheVariants as ending
-use Rattle.sil_cli.specs.declared.ending.Stop.{Stop}
-use Rattle.sil_cli.specs.declared.ending.Stop.TheVariants as stop
-use Rattle.sil_cli.specs.Answer.{IsMissing, IsTooLong, IsParameterFault, AreFaults, IsNoted, IsUnless}
-use Rattle.sil_cli.specs.Endings.{run_status, stop_status, status_of, is_free, is_free_end, IsProgramEnd}
+use Rattle.command_report.specs.declared.ending.Ending.{Ending}
+use Rattle.command_report.specs.declared.ending.Ending.TheVariants as ending
+use Rattle.command_report.specs.declared.ending.Stop.{Stop}
+use Rattle.command_report.specs.declared.ending.Stop.TheVariants as stop
+use Rattle.sil_cli.specs.Answer.{IsMissing, IsTooLong, IsParameterFault, AreFaults, IsImageRefusal, IsNoted, IsUnless, NeverAnswers}
+use Rattle.command_report.specs.Endings.{run_status, stop_status, status_of, is_free, is_free_run, is_free_end, finish_status}
+use Rattle.sil_cli.specs.Engines.{Engine, Idle, Reader, Machine, OwnImage, SavedImage, AnyImage, IsMachineEnd, IsProgramEnd, MayRefuse, RunCause}
 use Rattle.sil_cli.specs.CommandFiles.{StopCause}
-use Rattle.sil_cli.specs.Noted.{settled}
-use Rattle.sil_cli.specs.Report.{EndingCause, finish_status}
+use Rattle.command_report.specs.Noted.{settled}
+use Rattle.sil_cli.specs.Report.{EndingCause, RunCaused}
 
 -- ---- the codes of endings
 
 abbrev pub is_run_code : ℕ → Bool
-is_run_code n = nat_le n 1 || (n == 6) || (n == 7) || (n == 8)
+is_run_code n = nat_le n 1 || (n == 6) || (n == 7) || (n == 8) || (n == 9) || (n == 11) || (n == 12)
 
 abbrev pub is_stop_code : ℕ → Bool
-is_stop_code n = (n == 3) || (n == 4) || (n == 10) || (n == 12) || (n == 13) || (n == 15) || (n == 16)
+is_stop_code n = (n == 3) || (n == 4) || (n == 5) || (n == 10) || (n == 12) || (n == 13) || (n == 15) || (n == 16)
 
-exit-code : (code : ℕ) → code ≤ 1 → is_run_code code ≡ true
-exit-code code h = grind (arith, nat_tests)
+exit-code : (b : Bool) → is_run_code (if b then 0 else 1) ≡ true
+exit-code true = refl
+exit-code false = refl
 
-run-code : (e : CpuEnd) → IsProgramEnd e → is_run_code (run_status e) ≡ true
-run-code (run.Exit code) h = exit-code code h
-run-code (run.Trap k) h = refl
-run-code (run.Undefined k) h = refl
-run-code run.Budget h = refl
-run-code (run.UnitFault k unit) h = absurd h
-run-code (run.Illegal pc) h = absurd h
-run-code (run.Fetch pc) h = absurd h
-run-code (run.Load pc) h = absurd h
-run-code (run.Store pc) h = absurd h
-run-code (run.BadCall pc) h = absurd h
-run-code run.Runaway h = absurd h
-run-code run.Memory h = absurd h
+run-code : (e : CpuEnd) → is_run_code (run_status e) ≡ true
+run-code (run.Exit code) = exit-code (code == 0)
+run-code (run.Trap k) = refl
+run-code (run.Undefined k) = refl
+run-code run.Budget = refl
+run-code (run.UnitFault k unit) = refl
+run-code (run.Illegal pc) = refl
+run-code (run.Fetch pc) = refl
+run-code (run.Load pc) = refl
+run-code (run.Store pc) = refl
+run-code (run.BadCall pc) = refl
+run-code run.Runaway = refl
+run-code run.Memory = refl
 
-stop-code : (s : Stop) (b a : ℕ) → StopCause s b a → is_stop_code (stop_status s) ≡ true
-stop-code (stop.Missing name) b a h = refl
-stop-code (stop.TooLong name) b a h = refl
-stop-code (stop.StoreFault name) b a h = refl
-stop-code (stop.Parameters fault) b a h = refl
-stop-code (stop.Faults faults) b a h = refl
-stop-code stop.NotBuilt b a h = refl
-stop-code (stop.ImageRefused part) b a h = absurd h
-stop-code stop.Memory b a h = refl
+stop-code : (s : Stop) → is_stop_code (stop_status s) ≡ true
+stop-code (stop.Missing name) = refl
+stop-code (stop.TooLong name) = refl
+stop-code (stop.StoreFault name) = refl
+stop-code (stop.Parameters fault) = refl
+stop-code (stop.Faults faults) = refl
+stop-code stop.NotBuilt = refl
+stop-code (stop.ImageRefused part) = refl
+stop-code stop.Memory = refl
 
 both : (b : Bool) → b ≡ true → b ≡ false → ⊥
 both b t f = let no : true ≡ false = sym t ∙ f in cc
 
-run-apart : (n : ℕ) (e : CpuEnd) → is_run_code n ≡ false → IsProgramEnd e → run_status e ≡ n → ⊥
-run-apart n e f h is = both (is_run_code n) (ap is_run_code (sym is) ∙ run-code e h) f
+run-apart : (n : ℕ) (e : CpuEnd) → is_run_code n ≡ false → run_status e ≡ n → ⊥
+run-apart n e f is = both (is_run_code n) (ap is_run_code (sym is) ∙ run-code e) f
 
-stop-apart : (n : ℕ) (s : Stop) (b a : ℕ) → is_stop_code n ≡ false → StopCause s b a → stop_status s ≡ n → ⊥
-stop-apart n s b a f h is = both (is_stop_code n) (ap is_stop_code (sym is) ∙ stop-code s b a h) f
+-- what was checked, installed or listed has the code of an exit
+zero-apart : (n : ℕ) → is_run_code n ≡ false → 0 ≡ n → ⊥
+zero-apart n f is = both (is_run_code n) (ap is_run_code (sym is) ∙ refl) f
+
+stop-apart : (n : ℕ) (s : Stop) → is_stop_code n ≡ false → stop_status s ≡ n → ⊥
+stop-apart n s f is = both (is_stop_code n) (ap is_stop_code (sym is) ∙ stop-code s) f
 
 -- no ending has another code
-pub code-apart : (n : ℕ) (end : Ending) (b a : ℕ) → 2 ≢ n → is_run_code n ≡ false → is_stop_code n ≡ false → EndingCause end b a → status_of end ≡ n → ⊥
-code-apart n ending.Words b a two f g h is = two is
-code-apart n (ending.Stopped s) b a two f g h is = stop-apart n s b a g h is
-code-apart n (ending.Ran e) b a two f g h is = run-apart n e f h is
+pub code-apart : (n : ℕ) (end : Ending) → 2 ≢ n → is_run_code n ≡ false → is_stop_code n ≡ false → status_of end ≡ n → ⊥
+code-apart n ending.Words two f g is = two is
+code-apart n (ending.Stopped s) two f g is = stop-apart n s g is
+code-apart n (ending.Checked k cells) two f g is = zero-apart n f is
+code-apart n (ending.Installed bytes) two f g is = zero-apart n f is
+code-apart n ending.Listed two f g is = zero-apart n f is
+code-apart n (ending.Ran e) two f g is = run-apart n e f is
 
-pub words-of : (end : Ending) (b a : ℕ) → EndingCause end b a → status_of end ≡ 2 → end ≡ ending.Words
-words-of ending.Words b a h is = refl
-words-of (ending.Stopped s) b a h is = absurd (stop-apart 2 s b a refl h is)
-words-of (ending.Ran e) b a h is = absurd (run-apart 2 e refl h is)
+pub words-of : (end : Ending) → status_of end ≡ 2 → end ≡ ending.Words
+words-of ending.Words is = refl
+words-of (ending.Stopped s) is = absurd (stop-apart 2 s refl is)
+words-of (ending.Checked k cells) is = absurd (zero-apart 2 refl is)
+words-of (ending.Installed bytes) is = absurd (zero-apart 2 refl is)
+words-of ending.Listed is = absurd (zero-apart 2 refl is)
+words-of (ending.Ran e) is = absurd (run-apart 2 e refl is)
 
-stop-store : (s : Stop) (b a : ℕ) → StopCause s b a → stop_status s ≡ 10 → Rose b a
-stop-store (stop.Missing name) b a h is = absurd (omega arith)
-stop-store (stop.TooLong name) b a h is = absurd (omega arith)
-stop-store (stop.StoreFault name) b a h is = h
-stop-store (stop.Parameters fault) b a h is = absurd (omega arith)
-stop-store (stop.Faults faults) b a h is = absurd (omega arith)
-stop-store stop.NotBuilt b a h is = absurd (omega arith)
-stop-store (stop.ImageRefused part) b a h is = absurd h
-stop-store stop.Memory b a h is = absurd (omega arith)
+stop-store : (refuses : Type 0) (s : Stop) (b a : ℕ) → StopCause refuses s b a → stop_status s ≡ 10 → Rose b a
+stop-store refuses (stop.Missing name) b a h is = absurd (omega arith)
+stop-store refuses (stop.TooLong name) b a h is = absurd (omega arith)
+stop-store refuses (stop.StoreFault name) b a h is = h
+stop-store refuses (stop.Parameters fault) b a h is = absurd (omega arith)
+stop-store refuses (stop.Faults faults) b a h is = absurd (omega arith)
+stop-store refuses stop.NotBuilt b a h is = absurd (omega arith)
+stop-store refuses (stop.ImageRefused part) b a h is = absurd (omega arith)
+stop-store refuses stop.Memory b a h is = absurd (omega arith)
 
-pub store-of : (end : Ending) (b a : ℕ) → EndingCause end b a → status_of end ≡ 10 → Rose b a
-store-of ending.Words b a h is = absurd (omega arith)
-store-of (ending.Stopped s) b a h is = stop-store s b a h is
-store-of (ending.Ran e) b a h is = absurd (run-apart 10 e refl h is)
+pub store-of : (engine : Engine) (end : Ending) (stored : Bool) (b a : ℕ) → EndingCause engine end stored b a → status_of end ≡ 10 → Rose b a
+store-of engine ending.Words stored b a h is = absurd (omega arith)
+store-of engine (ending.Stopped s) stored b a h is = stop-store (MayRefuse engine stored) s b a h is
+store-of engine (ending.Checked k cells) stored b a h is = absurd (zero-apart 10 refl is)
+store-of engine (ending.Installed bytes) stored b a h is = absurd (zero-apart 10 refl is)
+store-of engine ending.Listed stored b a h is = absurd (zero-apart 10 refl is)
+store-of engine (ending.Ran e) stored b a h is = absurd (run-apart 10 e refl is)
 
 -- a code that neither words nor runs have is a stop's
-pub stopped-of : (n : ℕ) (end : Ending) (b a : ℕ) → 2 ≢ n → is_run_code n ≡ false → EndingCause end b a → status_of end ≡ n → (s : Stop) × (end ≡ ending.Stopped s) × (stop_status s ≡ n)
-stopped-of n ending.Words b a two f h is = absurd (two is)
-stopped-of n (ending.Stopped s) b a two f h is = (s, refl, is)
-stopped-of n (ending.Ran e) b a two f h is = absurd (run-apart n e f h is)
+pub stopped-of : (n : ℕ) (end : Ending) → 2 ≢ n → is_run_code n ≡ false → status_of end ≡ n → (s : Stop) × (end ≡ ending.Stopped s) × (stop_status s ≡ n)
+stopped-of n ending.Words two f is = absurd (two is)
+stopped-of n (ending.Stopped s) two f is = (s, refl, is)
+stopped-of n (ending.Checked k cells) two f is = absurd (zero-apart n f is)
+stopped-of n (ending.Installed bytes) two f is = absurd (zero-apart n f is)
+stopped-of n ending.Listed two f is = absurd (zero-apart n f is)
+stopped-of n (ending.Ran e) two f is = absurd (run-apart n e f is)
+
+-- ---- codes of commands that take any image
+
+exit-nine : (b : Bool) → ◌≡◌ {A = ℕ} (if b then 0 else 1) 9 → ⊥
+exit-nine true is = omega arith
+exit-nine false is = omega arith
+
+machine-nine : (e : CpuEnd) → IsMachineEnd e → run_status e ≡ 9 → ⊥
+machine-nine (run.Exit code) h is = exit-nine (code == 0) is
+machine-nine (run.Trap k) h is = omega arith
+machine-nine (run.Undefined k) h is = omega arith
+machine-nine run.Budget h is = omega arith
+machine-nine (run.UnitFault k unit) h is = omega arith
+machine-nine (run.Illegal pc) h is = h
+machine-nine (run.Fetch pc) h is = h
+machine-nine (run.Load pc) h is = h
+machine-nine (run.Store pc) h is = h
+machine-nine (run.BadCall pc) h is = h
+machine-nine run.Runaway h is = h
+machine-nine run.Memory h is = omega arith
+
+program-machine : (e : CpuEnd) → IsProgramEnd e → IsMachineEnd e
+program-machine (run.Exit code) h = tt
+program-machine (run.Trap k) h = tt
+program-machine (run.Undefined k) h = tt
+program-machine run.Budget h = tt
+program-machine (run.UnitFault k unit) h = tt
+program-machine (run.Illegal pc) h = h
+program-machine (run.Fetch pc) h = h
+program-machine (run.Load pc) h = h
+program-machine (run.Store pc) h = h
+program-machine (run.BadCall pc) h = h
+program-machine run.Runaway h = h
+program-machine run.Memory h = tt
+
+-- an end that no program has may come
+abbrev MayFault : Engine → Bool → Bool → Type 0
+MayFault Idle stored told = ⊥
+MayFault Reader stored told = ⊥
+MayFault Machine stored told = ⊥
+MayFault OwnImage stored told = told ≡ false
+MayFault SavedImage stored told = (stored && told) ≡ false
+MayFault AnyImage stored told = Unit {0}
+
+unlike : (b : Bool) → (b ≡ true → ⊥) → b ≡ false
+unlike true h = absurd (h refl)
+unlike false h = refl
+
+unlike-both : (a b : Bool) → (a ≡ true → b ≡ true → ⊥) → (a && b) ≡ false
+unlike-both true b h = unlike b (h refl)
+unlike-both false b h = refl
+
+run-nine : (engine : Engine) (e : CpuEnd) (stored told : Bool) → RunCause engine e stored told → run_status e ≡ 9 → MayFault engine stored told
+run-nine Idle e stored told h is = h
+run-nine Reader e stored told h is = h
+run-nine Machine e stored told h is = machine-nine e h is
+run-nine OwnImage e stored told h is = unlike told (λ t. machine-nine e (program-machine e (h t)) is)
+run-nine SavedImage e stored told h is = unlike-both stored told (λ s t. machine-nine e (program-machine e (h s t)) is)
+run-nine AnyImage e stored told h is = tt
+
+stop-five : (refuses : Type 0) (s : Stop) (b a : ℕ) → StopCause refuses s b a → stop_status s ≡ 5 → refuses
+stop-five refuses (stop.Missing name) b a h is = absurd (omega arith)
+stop-five refuses (stop.TooLong name) b a h is = absurd (omega arith)
+stop-five refuses (stop.StoreFault name) b a h is = absurd (omega arith)
+stop-five refuses (stop.Parameters fault) b a h is = absurd (omega arith)
+stop-five refuses (stop.Faults faults) b a h is = absurd (omega arith)
+stop-five refuses stop.NotBuilt b a h is = absurd (omega arith)
+stop-five refuses (stop.ImageRefused part) b a h is = h
+stop-five refuses stop.Memory b a h is = absurd (omega arith)
+
+five-of : (engine : Engine) (end : Ending) (stored : Bool) (b a : ℕ) → EndingCause engine end stored b a → status_of end ≡ 5 → MayRefuse engine stored
+five-of engine ending.Words stored b a h is = absurd (omega arith)
+five-of engine (ending.Stopped s) stored b a h is = stop-five (MayRefuse engine stored) s b a h is
+five-of engine (ending.Checked k cells) stored b a h is = absurd (zero-apart 5 refl is)
+five-of engine (ending.Installed bytes) stored b a h is = absurd (zero-apart 5 refl is)
+five-of engine ending.Listed stored b a h is = absurd (zero-apart 5 refl is)
+five-of engine (ending.Ran e) stored b a h is = absurd (run-apart 5 e refl is)
+
+nine-of : (engine : Engine) (end : Ending) (stored : Bool) (units units' : AllUnits) → RunCaused engine end stored units units' → status_of end ≡ 9 → MayFault engine stored (all_told (tapes_of units))
+nine-of engine ending.Words stored units units' h is = absurd (omega arith)
+nine-of engine (ending.Stopped s) stored units units' h is = absurd (stop-apart 9 s refl is)
+nine-of engine (ending.Checked k cells) stored units units' h is = absurd (omega arith)
+nine-of engine (ending.Installed bytes) stored units units' h is = absurd (omega arith)
+nine-of engine ending.Listed stored units units' h is = absurd (omega arith)
+nine-of engine (ending.Ran e) stored units units' h is = run-nine engine e stored (all_told (tapes_of units)) h.ends is
+
+pub never-by : (engine : Engine) (end : Ending) (stored : Bool) (b a code : ℕ) (units units' : AllUnits) → EndingCause engine end stored b a → RunCaused engine end stored units units' → (code ≡ 5 → status_of end ≡ 5) → (code ≡ 9 → status_of end ≡ 9) → NeverAnswers engine code stored (all_told (tapes_of units))
+never-by Idle end stored b a code units units' h ran five nine = (λ e. five-of Idle end stored b a h (five e), λ e. nine-of Idle end stored units units' ran (nine e))
+never-by Reader end stored b a code units units' h ran five nine = λ e. nine-of Reader end stored units units' ran (nine e)
+never-by Machine end stored b a code units units' h ran five nine = (λ e. five-of Machine end stored b a h (five e), λ e. nine-of Machine end stored units units' ran (nine e))
+never-by OwnImage end stored b a code units units' h ran five nine = (λ e. five-of OwnImage end stored b a h (five e), λ e. nine-of OwnImage end stored units units' ran (nine e))
+never-by SavedImage end stored b a code units units' h ran five nine = (λ e. five-of SavedImage end stored b a h (five e), λ e. nine-of SavedImage end stored units units' ran (nine e))
+never-by AnyImage end stored b a code units units' h ran five nine = tt
+
+-- ---- what stops tell
 
 pub missing-of : (s : Stop) → stop_status s ≡ 13 → (is_free s ≡ false) × IsMissing s
 missing-of (stop.Missing name) is = (refl, (name, refl))
@@ -142,6 +257,16 @@ faults-of stop.NotBuilt is = absurd (omega arith)
 faults-of (stop.ImageRefused part) is = absurd (omega arith)
 faults-of stop.Memory is = absurd (omega arith)
 
+pub refusal-of : (s : Stop) → stop_status s ≡ 5 → (is_free s ≡ false) × IsImageRefusal s
+refusal-of (stop.Missing name) is = absurd (omega arith)
+refusal-of (stop.TooLong name) is = absurd (omega arith)
+refusal-of (stop.StoreFault name) is = absurd (omega arith)
+refusal-of (stop.Parameters fault) is = absurd (omega arith)
+refusal-of (stop.Faults faults) is = absurd (omega arith)
+refusal-of stop.NotBuilt is = absurd (omega arith)
+refusal-of (stop.ImageRefused part) is = (refl, (part, refl))
+refusal-of stop.Memory is = absurd (omega arith)
+
 free-stop : (s : Stop) → is_free s ≡ true → (stop_status s ≡ 10) ⊎ (stop_status s ≡ 12)
 free-stop (stop.Missing name) is = absurd (let none : ⊥ = cc in none)
 free-stop (stop.TooLong name) is = absurd (let none : ⊥ = cc in none)
@@ -152,25 +277,28 @@ free-stop stop.NotBuilt is = absurd (let none : ⊥ = cc in none)
 free-stop (stop.ImageRefused part) is = absurd (let none : ⊥ = cc in none)
 free-stop stop.Memory is = inr refl
 
-free-run : (e : CpuEnd) → IsProgramEnd e → is_free_end (ending.Ran e) ≡ true → ⊥
-free-run (run.Exit code) h is = cc
-free-run (run.Trap k) h is = cc
-free-run (run.Undefined k) h is = cc
-free-run run.Budget h is = cc
-free-run (run.UnitFault k unit) h is = h
-free-run (run.Illegal pc) h is = h
-free-run (run.Fetch pc) h is = h
-free-run (run.Load pc) h is = h
-free-run (run.Store pc) h is = h
-free-run (run.BadCall pc) h is = h
-free-run run.Runaway h is = h
-free-run run.Memory h is = h
+free-run : (e : CpuEnd) → is_free_run e ≡ true → run_status e ≡ 12
+free-run (run.Exit code) is = absurd (let none : ⊥ = cc in none)
+free-run (run.Trap k) is = absurd (let none : ⊥ = cc in none)
+free-run (run.Undefined k) is = absurd (let none : ⊥ = cc in none)
+free-run run.Budget is = absurd (let none : ⊥ = cc in none)
+free-run (run.UnitFault k unit) is = absurd (let none : ⊥ = cc in none)
+free-run (run.Illegal pc) is = absurd (let none : ⊥ = cc in none)
+free-run (run.Fetch pc) is = absurd (let none : ⊥ = cc in none)
+free-run (run.Load pc) is = absurd (let none : ⊥ = cc in none)
+free-run (run.Store pc) is = absurd (let none : ⊥ = cc in none)
+free-run (run.BadCall pc) is = absurd (let none : ⊥ = cc in none)
+free-run run.Runaway is = absurd (let none : ⊥ = cc in none)
+free-run run.Memory is = refl
 
 -- an ending that a fault of the store or want of memory brings
-pub free-of : (end : Ending) (b a : ℕ) → EndingCause end b a → is_free_end end ≡ true → (status_of end ≡ 10) ⊎ (status_of end ≡ 12)
-free-of ending.Words b a h is = absurd (let none : ⊥ = cc in none)
-free-of (ending.Stopped s) b a h is = free-stop s is
-free-of (ending.Ran e) b a h is = absurd (free-run e h is)
+pub free-of : (end : Ending) → is_free_end end ≡ true → (status_of end ≡ 10) ⊎ (status_of end ≡ 12)
+free-of ending.Words is = absurd (let none : ⊥ = cc in none)
+free-of (ending.Stopped s) is = free-stop s is
+free-of (ending.Checked k cells) is = absurd (let none : ⊥ = cc in none)
+free-of (ending.Installed bytes) is = absurd (let none : ⊥ = cc in none)
+free-of ending.Listed is = absurd (let none : ⊥ = cc in none)
+free-of (ending.Ran e) is = inr (free-run e is)
 
 -- ---- the finishes and the notes
 

@@ -1,8 +1,12 @@
-pub mod Noting
-pub mod Maps
-pub mod RunEnds
-pub mod Commands
-pub mod Codes
-pub mod Statuses
-pub mod Whole
-pub mod Emulated
+mod Maps
+mod RunEnds
+mod ImageLengths
+mod Commands
+mod InstalledRuns
+mod Going
+mod OnImages
+mod Demos
+mod Tellings
+mod Codes
+mod Whole
+mod Statuses

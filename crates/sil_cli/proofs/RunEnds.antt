@@ -1,9 +1,11 @@
--- How runs of installed programs end, as long as no macro calls a unit: by an exit with 0 or 1, a trap, an undefined use or the bound.
-use Rattle.std.proofs.Common.{◌≡◌, ℕ, zero, suc, ◌≤◌, Bool, true, false, ◌==◌, ◌&&◌, Option, None, Some, refl, sym, subst, arith}
+-- How runs of installed programs end over units that all tell their tapes: by an exit with 0 or 1, a trap, an undefined use, a failure of a unit or the bound.
+use Rattle.std.proofs.Common.{◌≡◌, ℕ, zero, suc, ◌≤◌, List, [], ◌∷◌, Bool, true, false, ◌==◌, ◌&&◌, Option, None, Some, refl, sym, ap, subst, ◌∙◌, arith}
 use Rattle.std.proofs.lemmas.Bool.Decides.{nat_tests}
-use Rattle.std.specs.Prelude.{ℤ, is_some, nat_le, nat_lt, slice_get, if◌then◌else◌}
+use Rattle.std.specs.Prelude.{ℤ, is_some, nat_le, nat_lt, slice_get, slice_set, if◌then◌else◌}
 use Rattle.unit_io.specs.RunEnds.{Run}
-use Rattle.unit_io.specs.Tapes.{Tapes}
+use Rattle.unit_io.specs.Numbered.{in_place, unit_at, with_unit}
+use Rattle.unit_io.specs.Tapes.{TapeState, Tapes, all_told, with_tape}
+use Rattle.unit_calls.specs.CallsMade.{Made}
 use Rattle.layout_params.specs.Parameters.{Parameters}
 use Rattle.sil_macros.specs.declared.names.Macro.{Macro}
 use Rattle.sil_macros.specs.declared.names.Macro.TheVariants.{Bkspce, Enfile, Output, Rewind, Stprnt, Stread}
@@ -12,16 +14,20 @@ use Rattle.sil_model.specs.declared.end.End.TheVariants as ends
 use Rattle.sil_model.specs.declared.program.Flow.TheVariants.{Next, To, Exit, Trap}
 use Rattle.sil_model.specs.declared.program.Program.{Program}
 use Rattle.sil_model.specs.declared.program.Statement.{Statement}
+use Rattle.sil_model.specs.Access.{◌>>=◌}
 use Rattle.sil_model.specs.Effects.{Effect}
 use Rattle.sil_model.specs.Effects as effects
-use Rattle.sil_model.specs.Machine.{settle, make_step, with_statement, after_step, ended}
-use Rattle.sil_model.specs.Machine as machine
+use Rattle.sil_model.specs.Settling.{settle}
+use Rattle.sil_runs.specs.Machine.{make_step, with_statement, after_step, ended}
+use Rattle.sil_runs.specs.Machine as machine
 use Rattle.sil_model.specs.Sites.{Site, site_of}
 use Rattle.sil_model.specs.States as abstract
 use Rattle.sil_model.specs.States.{Step, Goes, Ends}
-use Rattle.sil_model.specs.Table.{clause, calls_unit}
-use Rattle.sil_model.specs.UnitLaws.{KeepsTapes}
-use Rattle.sil_model.proofs.Alone.{alone}
+use Rattle.sil_runs.specs.Table.{clause}
+use Rattle.sil_model.specs.UnitMacros.{calls_unit, KeepsTapes}
+use Rattle.unit_clauses.specs.UnitTable.{unit_clause}
+use Rattle.unit_clauses.specs.UnitClauses.{after_call, bkspce, call_on, call_unit, enfile, output, rewind, way_by}
+use Rattle.sil_runs.proofs.Alone.{alone}
 use Rattle.rv_isa.specs.declared.instr.IOp.{IOp}
 use Rattle.rv_isa.specs.declared.instr.IOp.TheVariants.{Addi, Slti, Sltiu, Xori, Ori, Andi, Slli, Srli, Srai, Lb, Lh, Lw, Ld, Lbu, Lhu, Lwu, Jalr, Addiw, Slliw, Srliw, Sraiw, Fence}
 use Rattle.rv_isa.specs.declared.instr.UOp.TheVariants.{Lui, Auipc}
@@ -36,12 +42,46 @@ use Rattle.rv_emulate.specs.Ecalls as calls
 use Rattle.rv_emulate.specs.Ecalls.{is_unit_call}
 use Rattle.rv_emulate.specs.EmulatorMemory.{Memory, stored}
 use Rattle.rv_emulate.specs.EmulatorStates.{State, Outcome, On, Ended, register, statement_number, start}
-use Rattle.rv_emulate.specs.EmulatorSteps.{act, i_step, load_step, store_step, answer, with_instr, with_word, word_at, step, sum64, s_width}
+use Rattle.rv_emulate.specs.EmulatorSteps.{act, i_step, load_step, store_step, answer, answer_on, unit_of, with_instr, with_word, word_at, step, sum64, s_width}
 use Rattle.rv_emulate.specs.EmulatorSteps as steps
 use Rattle.rv_emulate.specs.EmulatorRuns.{emulation, on_state, end_of}
 use Rattle.rv_emulate.specs.EmulatorRuns as emulator
 use Rattle.rv_operations.specs.Does.{as_end}
-use Rattle.sil_cli.specs.Endings.{IsProgramEnd}
+use Rattle.sil_cli.specs.Engines.{IsProgramEnd}
+
+-- ---- tapes that all tell
+
+got : (tapes : Tapes) (i : ℕ) → all_told tapes ≡ true → slice_get tapes i ≡ Some (Some None) → ⊥
+got [] i h e = absurd (cc)
+got (None ∷ tapes) zero h e = absurd (cc)
+got (None ∷ tapes) (suc i) h e = got tapes i h e
+got (Some None ∷ tapes) i h e = absurd (cc)
+got (Some (Some t) ∷ tapes) zero h e = absurd (cc)
+got (Some (Some t) ∷ tapes) (suc i) h e = got tapes i h e
+
+put_told : (tapes : Tapes) (i : ℕ) (t : TapeState) → all_told tapes ≡ true → all_told (slice_set tapes i (Some (Some t))) ≡ true
+put_told [] i t h = refl
+put_told (None ∷ tapes) zero t h = h
+put_told (None ∷ tapes) (suc i) t h = put_told tapes i t h
+put_told (Some None ∷ tapes) i t h = absurd (cc)
+put_told (Some (Some x) ∷ tapes) zero t h = h
+put_told (Some (Some x) ∷ tapes) (suc i) t h = put_told tapes i t h
+
+in-place : (o : Option (Option (Option TapeState))) → in_place o ≡ Some None → o ≡ Some (Some None)
+in-place None e = absurd (cc)
+in-place (Some None) e = absurd (cc)
+in-place (Some (Some None)) e = refl
+in-place (Some (Some (Some t))) e = absurd (cc)
+
+no-untold : (tapes : Tapes) (n : ℕ) → all_told tapes ≡ true → unit_at tapes n ≡ Some None → ⊥
+unfolding unit_at
+no-untold tapes zero h e = absurd (cc)
+no-untold tapes (suc n) h e = got tapes n h (in-place (slice_get tapes n) e)
+
+still-told : (tapes : Tapes) (n : ℕ) (t : TapeState) → all_told tapes ≡ true → all_told (with_tape tapes n t) ≡ true
+unfolding with_unit
+still-told tapes zero t h = h
+still-told tapes (suc n) t h = put_told tapes n t h
 
 -- ---- the machine's ends
 
@@ -50,7 +90,7 @@ IsPlain None = ⊥
 IsPlain (Some (ends.Exit code)) = Unit {0}
 IsPlain (Some (ends.Trap k)) = Unit {0}
 IsPlain (Some (ends.Undefined k)) = Unit {0}
-IsPlain (Some (ends.UnitFault k unit)) = ⊥
+IsPlain (Some (ends.UnitFault k unit)) = Unit {0}
 IsPlain (Some ends.Budget) = Unit {0}
 IsPlain (Some ends.Memory) = ⊥
 
@@ -58,54 +98,81 @@ pub has-end : (o : Option End) → IsPlain o → is_some o ≡ true
 has-end None h = absurd h
 has-end (Some end) h = refl
 
-abbrev StepsPlainly : Step → Type 0
-StepsPlainly (Goes s) = Unit {0}
+-- a step leaves tapes that all tell, or ends the run
+unfoldable StepsPlainly : Step → Type 0
+StepsPlainly (Goes s) = all_told s.tapes ≡ true
 StepsPlainly (Ends e tapes) = IsPlain e
 
--- the macros that call units aren't built
-uncalled : (name : Macro) (site : Site) (s : abstract.State) → calls_unit name ≡ true → clause name site s ≡ None
-unfolding clause
-uncalled Bkspce site s h = refl
-uncalled Enfile site s h = refl
-uncalled Output site s h = refl
-uncalled Rewind site s h = refl
-uncalled Stprnt site s h = refl
-uncalled Stread site s h = refl
-uncalled _ site s h = absurd (cc)
+plain-none : (s : abstract.State) → StepsPlainly (settle s None)
+unfolding StepsPlainly
+plain-none s = tt
 
-settles : (s : abstract.State) (e : Effect) → KeepsTapes s.tapes e → StepsPlainly (settle s e)
-unfolding KeepsTapes
-settles s None h = tt
-settles s (Some (effects.On Next, t)) h = tt
-settles s (Some (effects.On (To k), t)) h = tt
-settles s (Some (effects.On (Exit code), t)) h = tt
-settles s (Some (effects.On Trap, t)) h = tt
-settles s (Some (effects.Undefined, t)) h = absurd h
-settles s (Some (effects.UnitFault unit, t)) h = absurd h
-settles s (Some (effects.Untold, t)) h = absurd h
+plain-read : {A : Type 0} (s : abstract.State) (o : Option A) (f : A → Effect) → ((a : A) → StepsPlainly (settle s (f a))) → StepsPlainly (settle s (o >>= f))
+plain-read s None f h = plain-none s
+plain-read s (Some a) f h = h a
 
-by-calls : (b : Bool) (name : Macro) (site : Site) (s : abstract.State) → calls_unit name ≡ b → StepsPlainly (settle s (clause name site s))
-by-calls true name site s h = subst (λ e. StepsPlainly (settle s e)) (sym (uncalled name site s h)) tt
-by-calls false name site s h = settles s (clause name site s) (alone name site s h)
+plain-way : (s t : abstract.State) (unit answer : ℕ) → all_told t.tapes ≡ true → StepsPlainly (settle s (Some (way_by unit answer, t)))
+unfolding StepsPlainly
+plain-way s t unit zero h = h
+plain-way s t unit (suc zero) h = tt
+plain-way s t unit (suc (suc zero)) h = tt
+plain-way s t unit (suc (suc (suc zero))) h = tt
+plain-way s t unit (suc (suc (suc (suc n)))) h = tt
 
-step-plain : (program : Program) (parameters : Parameters) (st : Statement) (s : abstract.State) → StepsPlainly (make_step program parameters st s)
+plain-on : (s : abstract.State) (unit : ℕ) (make : TapeState → Made) (o : Option (Option TapeState)) → unit_at s.tapes unit ≡ o → all_told s.tapes ≡ true → StepsPlainly (settle s (call_on s unit make o))
+plain-on s unit make None e h = plain-none s
+plain-on s unit make (Some None) e h = absurd (no-untold s.tapes unit h e)
+plain-on s unit make (Some (Some t)) e h = plain-way s (after_call s unit (make t)) unit (make t).answer (still-told s.tapes unit (make t).tape h)
+
+plain-call : (s : abstract.State) (unit : ℕ) (make : TapeState → Made) → all_told s.tapes ≡ true → StepsPlainly (settle s (call_unit s unit make))
+plain-call s unit make h = plain-on s unit make (unit_at s.tapes unit) refl h
+
+-- a macro that calls a unit
+plain-calls : (name : Macro) (site : Site) (s : abstract.State) → all_told s.tapes ≡ true → calls_unit name ≡ true → StepsPlainly (settle s (clause name site s))
+unfolding clause unit_clause bkspce enfile output rewind
+plain-calls Bkspce site s h c = search (plain-read, plain-call) depth 20
+plain-calls Enfile site s h c = search (plain-read, plain-call) depth 20
+plain-calls Output site s h c = search (plain-read, plain-call) depth 20
+plain-calls Rewind site s h c = search (plain-read, plain-call) depth 20
+plain-calls Stprnt site s h c = plain-none s
+plain-calls Stread site s h c = plain-none s
+plain-calls _ site s h c = absurd (cc)
+
+-- one that calls none keeps the tapes
+settles : (s : abstract.State) (e : Effect) → all_told s.tapes ≡ true → KeepsTapes s.tapes e → StepsPlainly (settle s e)
+unfolding KeepsTapes StepsPlainly
+settles s None h k = tt
+settles s (Some (effects.On Next, t)) h k = ap all_told k ∙ h
+settles s (Some (effects.On (To j), t)) h k = ap all_told k ∙ h
+settles s (Some (effects.On (Exit code), t)) h k = tt
+settles s (Some (effects.On Trap, t)) h k = tt
+settles s (Some (effects.Undefined, t)) h k = absurd k
+settles s (Some (effects.UnitFault unit, t)) h k = absurd k
+settles s (Some (effects.Untold, t)) h k = absurd k
+
+by-calls : (b : Bool) (name : Macro) (site : Site) (s : abstract.State) → all_told s.tapes ≡ true → calls_unit name ≡ b → StepsPlainly (settle s (clause name site s))
+by-calls true name site s h c = plain-calls name site s h c
+by-calls false name site s h c = settles s (clause name site s) h (alone name site s c)
+
+step-plain : (program : Program) (parameters : Parameters) (st : Statement) (s : abstract.State) → all_told s.tapes ≡ true → StepsPlainly (make_step program parameters st s)
 unfolding make_step
-step-plain program parameters st s = by-calls (calls_unit st.name) st.name (site_of program parameters s.statement st) s refl
+step-plain program parameters st s h = by-calls (calls_unit st.name) st.name (site_of program parameters s.statement st) s h refl
 
-after-plain : (step : Step) (go : abstract.State → Run End) → StepsPlainly step → ((s : abstract.State) → IsPlain (go s).end) → IsPlain (after_step step ended go).end
-after-plain (Goes s) go h goes = goes s
+after-plain : (step : Step) (go : abstract.State → Run End) → StepsPlainly step → ((s : abstract.State) → all_told s.tapes ≡ true → IsPlain (go s).end) → IsPlain (after_step step ended go).end
+unfolding StepsPlainly
+after-plain (Goes s) go h goes = goes s h
 after-plain (Ends e tapes) go h goes = h
 
 at-plain : (o : Option Statement) (past : Run End) (go : Statement → Run End) → IsPlain past.end → ((st : Statement) → IsPlain (go st).end) → IsPlain (with_statement o past go).end
 at-plain None past go h goes = h
 at-plain (Some st) past go h goes = goes st
 
--- so each run has an end, which is no fault of a unit
-pub run-plain : (program : Program) (parameters : Parameters) (n : ℕ) (s : abstract.State) → IsPlain (machine.run program parameters n s).end
+-- so each run over units that all tell their tapes has an end, which is none by want of memory
+pub run-plain : (program : Program) (parameters : Parameters) (n : ℕ) (s : abstract.State) → all_told s.tapes ≡ true → IsPlain (machine.run program parameters n s).end
 unfolding machine.run
-run-plain program parameters zero s = at-plain (slice_get program.statements s.statement) _ _ tt (λ st. tt)
-run-plain program parameters (suc n) s =
-    at-plain (slice_get program.statements s.statement) _ _ tt (λ st. after-plain (make_step program parameters st s) (machine.run program parameters n) (step-plain program parameters st s) (run-plain program parameters n))
+run-plain program parameters zero s h = at-plain (slice_get program.statements s.statement) _ _ tt (λ st. tt)
+run-plain program parameters (suc n) s h =
+    at-plain (slice_get program.statements s.statement) _ _ tt (λ st. after-plain (make_step program parameters st s) (machine.run program parameters n) (step-plain program parameters st s h) (run-plain program parameters n))
 
 -- ---- the emulator's exits
 
@@ -148,8 +215,13 @@ store-small : (s : State) (o : Option Memory) → EndsSmall (store_step s o)
 store-small s None = tt
 store-small s (Some m) = tt
 
-ecall-small : (image : Image) (s : State) (b : Bool) → EndsSmall (if b then answer s else steps.ended image s)
-ecall-small image s true = tt
+answer-small : (image : Image) (s : State) (o : Option (Option TapeState)) → EndsSmall (answer_on image s o)
+answer-small image s None = tt
+answer-small image s (Some None) = tt
+answer-small image s (Some (Some t)) = tt
+
+ecall-small : (image : Image) (s : State) (b : Bool) → EndsSmall (if b then answer image s else steps.ended image s)
+ecall-small image s true = answer-small image s (unit_at s.tapes (unit_of s))
 ecall-small image s false =
     called-small ((register s.registers 17 == 1) && nat_le (statement_number s) _) (calls.end_by (register s.registers 10) (statement_number s) s.failed s.pc) s.pc (end-small (register s.registers 10) (statement_number s) s.pc s.failed)
 
@@ -224,6 +296,6 @@ pub program-end : (x : End) → IsPlain (Some x) → HasSmallExit (as_end x) →
 program-end (ends.Exit code) h small = small
 program-end (ends.Trap k) h small = tt
 program-end (ends.Undefined k) h small = tt
-program-end (ends.UnitFault k unit) h small = h
+program-end (ends.UnitFault k unit) h small = tt
 program-end ends.Budget h small = tt
-program-end ends.Memory h small = h
+program-end ends.Memory h small = tt

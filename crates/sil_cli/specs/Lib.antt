@@ -1,9 +1,6 @@
-pub mod Endings
-pub mod Noted
+pub mod Engines
 pub mod CommandFiles
-pub mod CommandWords
-pub mod Orders
-pub mod ImageRuns
+pub mod DemoJobs
 pub mod Report
 pub mod Answer
 pub mod Headline

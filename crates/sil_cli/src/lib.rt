@@ -1,16 +1,13 @@
 // The commands, and what they answer.
 #![tactic(auto)]
 
+mod came;
 mod command;
-mod ending;
+mod demo;
 mod files;
-mod lines;
 mod main_call;
-mod notes;
-mod order;
-mod running;
-mod words;
+mod on_image;
 
-pub use ending::{Ending, Stop};
-pub use main_call::{Status, after_finishes, sil_main};
-pub use running::run_image;
+pub use command_report::{Ending, Stop, after_finishes};
+pub use files::MAX_IMAGE_BYTES;
+pub use main_call::{Status, sil_main};

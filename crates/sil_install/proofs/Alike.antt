@@ -12,10 +12,12 @@ use Rattle.sil_model.specs.declared.program.Statement.{Statement}
 use Rattle.sil_model.specs.States as machine
 use Rattle.sil_model.specs.States.{Step, Goes, Ends}
 use Rattle.sil_model.specs.Start.{first_state}
-use Rattle.sil_model.specs.Machine as abstract
-use Rattle.sil_model.specs.Machine.{make_step, step, after, after_step, machine as machine_run, with_statement, ended, meet, ends_with}
-use Rattle.sil_model.specs.Costs.{cost}
-use Rattle.sil_model.specs.Valid.{IsValid, IsSteady}
+use Rattle.sil_runs.specs.Machine as abstract
+use Rattle.sil_runs.specs.Machine.{make_step, step, after, after_step, machine as machine_run, with_statement, ended, meet}
+use Rattle.sil_model.specs.Settling.{ends_with}
+use Rattle.sil_runs.specs.Costs.{cost}
+use Rattle.sil_model.specs.Valid.{IsValid}
+use Rattle.sil_runs.specs.StepLaws.{IsSteady}
 use Rattle.sil_model.specs.Prints.{IsSilent}
 use Rattle.image_file.specs.Image.{Image}
 use Rattle.rv_emit.specs.Parts.{IsImageOf}
@@ -28,7 +30,8 @@ use Rattle.rv_emulate.proofs.RunLaws.{run-add, run-end, met-add, met-end, met_wa
 use Rattle.rv_emit.specs.Represents.{Represents}
 use Rattle.rv_straight.specs.InstalledWays.{IsBetween, Permits, Comes}
 use Rattle.rv_operations.specs.Does.{as_end}
-use Rattle.rv_emit.specs.Ways.{place, ComesTo, EndsAs, Makes, CarriesOut}
+use Rattle.rv_emit.specs.StatementPlaces.{place}
+use Rattle.sil_install.specs.Ways.{ComesTo, EndsAs, Makes, CarriesOut}
 use Rattle.sil_install.specs.Installed.{SameRun, RunsAlike, Stops, Arrives, IsEnd, Within}
 use Rattle.sil_install.specs.Law.{LawOfInstalledImages}
 use Rattle.sil_install.proofs.Counts.{less, enough, after_start, at_start, slot_large, slot_of, cost_fits}

@@ -1,7 +1,7 @@
 -- The macros that are installed so far are expanded.
 use Rattle.std.proofs.Common.{◌≡◌, true, refl}
 use Rattle.sil_macros.specs.declared.names.Macro.{Macro}
-use Rattle.sil_macros.specs.declared.names.Macro.TheVariants.{Acomp, Acompc, Adjust, Adreal, Aeql, Aeqlc, Aeqlic, Branch, Branic, Chkval, Decra, Deql, Divide, Dvreal, Endex, Exreal, Getac, Getd, Getdc, Getsiz, Incra, Incrv, Init, Intrl, Istack, Lcomp, Leqlc, Link, Load, Mnreal, Mnsint, Mova, Movd, Movdic, Movv, Mpreal, Mstime, Mult, Multc, Ordvst, Pop, Proc, Pstack, Push, Putac, Putd, Putdc, Putvc, Rcall, Rcomp, Realst, Resetf, Rlint, Rrturn, Rsetfi, Sbreal, Selbra, Setac, Setav, Setf, Setfi, Setsiz, Setva, Setvc, Spop, Spreal, Spush, Subtrt, Sum, Testf, Testfi, Unload, Vcmpic, Veql, Veqlc}
+use Rattle.sil_macros.specs.declared.names.Macro.TheVariants.{Acomp, Acompc, Adjust, Adreal, Aeql, Aeqlc, Aeqlic, Bkspce, Branch, Branic, Chkval, Decra, Deql, Divide, Dvreal, Endex, Enfile, Exreal, Getac, Getd, Getdc, Getsiz, Incra, Incrv, Init, Intrl, Istack, Lcomp, Leqlc, Link, Load, Mnreal, Mnsint, Mova, Movd, Movdic, Movv, Mpreal, Mstime, Mult, Multc, Ordvst, Output, Pop, Proc, Pstack, Push, Putac, Putd, Putdc, Putvc, Rcall, Rcomp, Realst, Resetf, Rewind, Rlint, Rrturn, Rsetfi, Sbreal, Selbra, Setac, Setav, Setf, Setfi, Setsiz, Setva, Setvc, Spop, Spreal, Spush, Subtrt, Sum, Testf, Testfi, Unload, Vcmpic, Veql, Veqlc}
 use Rattle.sil_program.specs.Built.{is_built}
 use Rattle.macro_expand.specs.Expanded.{is_expanded}
 
@@ -14,6 +14,7 @@ built_is_expanded Adreal h = refl
 built_is_expanded Aeql h = refl
 built_is_expanded Aeqlc h = refl
 built_is_expanded Aeqlic h = refl
+built_is_expanded Bkspce h = refl
 built_is_expanded Branch h = refl
 built_is_expanded Branic h = refl
 built_is_expanded Chkval h = refl
@@ -22,6 +23,7 @@ built_is_expanded Deql h = refl
 built_is_expanded Divide h = refl
 built_is_expanded Dvreal h = refl
 built_is_expanded Endex h = refl
+built_is_expanded Enfile h = refl
 built_is_expanded Exreal h = refl
 built_is_expanded Getac h = refl
 built_is_expanded Getd h = refl
@@ -47,6 +49,7 @@ built_is_expanded Mstime h = refl
 built_is_expanded Mult h = refl
 built_is_expanded Multc h = refl
 built_is_expanded Ordvst h = refl
+built_is_expanded Output h = refl
 built_is_expanded Pop h = refl
 built_is_expanded Proc h = refl
 built_is_expanded Pstack h = refl
@@ -59,6 +62,7 @@ built_is_expanded Rcall h = refl
 built_is_expanded Rcomp h = refl
 built_is_expanded Realst h = refl
 built_is_expanded Resetf h = refl
+built_is_expanded Rewind h = refl
 built_is_expanded Rlint h = refl
 built_is_expanded Rrturn h = refl
 built_is_expanded Rsetfi h = refl

@@ -11,7 +11,8 @@ use Rattle.sil_micro.specs.declared.op.Op.TheVariants.{Begin}
 use Rattle.sil_micro.specs.declared.op.Target.TheVariants.{Op as Place, Statement}
 use Rattle.sil_micro.specs.Codes.{MicroCode, place_of, return_of, setting_of}
 use Rattle.sil_micro.specs.Forms.{all_ops}
-use Rattle.sil_micro.specs.Operations.{Effect, On, To, ToReturn, Over, Stuck, act, begin_if, entered_statement, perform, weight}
+use Rattle.sil_model.specs.Entries.{entered_statement}
+use Rattle.sil_micro.specs.Operations.{Effect, On, To, ToReturn, Over, Stuck, act, begin_if, perform, weight}
 use Rattle.sil_micro.specs.Pieces.{is_no_begin, is_quiet}
 use Rattle.sil_micro.specs.MicroRuns as micro
 use Rattle.sil_micro.specs.MicroRuns.{Outcome, At, IsStuck, and_on, at_op, at_return, at_statement, follow, met_by}
@@ -110,11 +111,11 @@ module _ (image : Image) (settings : Settings) (c : MicroCode) (carries : Carrie
     pub stands : StandsFor g u s
     pub known : u.state.statement ≤ length c.entries
 
-  -- the run comes to this; of a run that is stuck or isn't told nothing is said
+  -- the run comes to this; of a run that is stuck nothing is said
   abbrev pub Arrives : State → Outcome → Type 0
   Arrives s0 (At q u) = (t : State) × Comes image last prints u.spent s0 (emulator.On t) × (t.pc ≡ places.op q) × StandsFor g u t
   Arrives s0 (micro.Ended (Some end) u) = Comes image last prints u.spent s0 (emulator.Ended (Some (as_end end)) u.state.tapes)
-  Arrives s0 (micro.Ended None u) = Unit {0}
+  Arrives s0 (micro.Ended None u) = Comes image last prints u.spent s0 (emulator.Ended None u.state.tapes)
   Arrives s0 IsStuck = Unit {0}
 
   abbrev pub Goes : ℕ → Type 0
@@ -145,6 +146,9 @@ module _ (image : Image) (settings : Settings) (c : MicroCode) (carries : Carrie
     ends_so : (end : End) (v : Micro) → Kept v → Comes image last false more s (emulator.Ended (Some (as_end end)) v.state.tapes) → Left (micro.Ended (Some end) v) → Arrives s0 o
     ends_so end v kept way left = subst (Arrives s0) left.0 (comes_on false v (emulator.Ended (Some (as_end end)) v.state.tapes) kept quietly way)
 
+    ends_untold : (p : Bool) (v : Micro) → Kept v → (p ≡ true → prints ≡ true) → Comes image last p more s (emulator.Ended None v.state.tapes) → Left (micro.Ended None v) → Arrives s0 o
+    ends_untold p v kept louder way left = subst (Arrives s0) left.0 (comes_on p v (emulator.Ended None v.state.tapes) kept louder way)
+
     to_statement : (to : Option ℕ) (v : Micro) → Kept v → ComesFor image last g false more (place_from settings c to) s v → Left (at_statement to v) → Arrives s0 o
     to_statement None v kept does left = subst (Arrives s0) left.0 tt
     to_statement (Some r) v kept does left = at_op_on false r v kept quietly does left
@@ -165,7 +169,7 @@ module _ (image : Image) (settings : Settings) (c : MicroCode) (carries : Carrie
     onward p q u (To (Statement k) v) es en louder kept does left = to_statement (place_of c k) v (record { weight_is = kept.0 ∙ es; number_is = kept.1 ∙ en }) does left
     onward p q u (ToReturn entry v) es en louder kept does left = by_entry (entered_statement v.state.memory.limits.cell_size (length c.entries) entry) v (record { weight_is = kept.0 ∙ es; number_is = kept.1 ∙ en }) does left
     onward p q u (Over (Some end) v) es en louder kept does left = ends_so end v (record { weight_is = kept.0 ∙ es; number_is = kept.1 ∙ en }) does left
-    onward p q u (Over None v) es en louder kept does left = subst (Arrives s0) left.0 tt
+    onward p q u (Over None v) es en louder kept does left = ends_untold p v (record { weight_is = kept.0 ∙ es; number_is = kept.1 ∙ en }) louder does left
     onward p q u Stuck es en louder kept does left = subst (Arrives s0) left.0 tt
 
   -- ---- one operation more

@@ -7,8 +7,9 @@ use Rattle.sil_model.specs.declared.program.Program.{Program}
 use Rattle.sil_model.specs.declared.program.Statement.{Statement}
 use Rattle.sil_model.specs.States as machine
 use Rattle.layout_params.specs.Areas.{all_cells}
-use Rattle.sil_model.specs.Costs.{cost, weight, weight_limit}
-use Rattle.sil_model.specs.Valid.{IsValid, IsSteady}
+use Rattle.sil_runs.specs.Costs.{cost, weight, weight_limit}
+use Rattle.sil_model.specs.Valid.{IsValid}
+use Rattle.sil_runs.specs.StepLaws.{IsSteady}
 use Rattle.image_file.specs.Image.{Image}
 use Rattle.sil_model.specs.CellWords.{kind_of}
 use Rattle.rv_emit.specs.Parts.{IsImageOf}

@@ -1,24 +1,18 @@
 -- The code of a program can be emitted, and what is emitted of it behaves as the program.
-use Rattle.std.proofs.Common.{◌≡◌, ℕ, ◌^◌, ◌≤◌, List, length, map, All, Some, Bool, true, false, refl, sym, ap, subst, ◌∙◌, arith}
+use Rattle.std.proofs.Common.{◌≡◌, ℕ, ◌^◌, ◌≤◌, List, length, map, All, Bool, true, false, sym, ap, subst, ◌∙◌, arith}
 use Rattle.std.proofs.lemmas.List.{length-map}
-use Rattle.std.proofs.lemmas.Option.{get_or_from_slice_get, slice_get_within}
 use Rattle.std.specs.List.{flat_map}
-use Rattle.std.specs.Prelude.{not, slice_get, sum_by, IsTrue}
+use Rattle.std.specs.Prelude.{not, sum_by}
 use Rattle.layout_params.specs.Areas.{all_cells}
 use Rattle.layout_params.specs.Parameters.{Settings, Parameters}
-use Rattle.sil_macros.specs.declared.names.Macro.{Macro}
-use Rattle.sil_macros.specs.declared.names.Macro.TheVariants.{Bkspce, Enfile, Output, Rewind, Stprnt, Stread}
 use Rattle.sil_model.specs.declared.program.Program.{Program}
-use Rattle.sil_model.specs.declared.program.Statement.{Statement}
 use Rattle.sil_model.specs.Prints.{IsSilent}
-use Rattle.sil_model.specs.Table.{calls_unit}
-use Rattle.sil_model.specs.UnitLaws.{LawOfUnits}
-use Rattle.sil_model.specs.Valid.{LawOfSteps}
+use Rattle.sil_runs.specs.StepLaws.{LawOfSteps}
 use Rattle.sil_model.specs.WellFormed.{IsWellFormed}
 use Rattle.sil_micro.specs.Codes.{MicroCode, IsCode}
 use Rattle.sil_micro.specs.Forms.{all_ops}
 use Rattle.sil_micro.specs.Pieces.{is_quiet}
-use Rattle.macro_expand.specs.Expanded.{AreExpanded, IsExpansion, is_expanded}
+use Rattle.macro_expand.specs.Expanded.{IsExpansion}
 use Rattle.macro_expand.specs.Steps.{StepsWithinCosts}
 use Rattle.image_file.specs.Image.{Image}
 use Rattle.rv_emit.specs.Code.{last_place, place_from}
@@ -28,20 +22,6 @@ use Rattle.sil_install.specs.Emission.{BehaveAs}
 use Rattle.sil_install.specs.Installed.{Behaves}
 use Rattle.sil_install.proofs.Alike.{law}
 use Rattle.sil_install.proofs.Join.{carries_out}
-
--- no macro that is expanded calls a unit
-calls_none : (name : Macro) → is_expanded name ≡ true → calls_unit name ≡ false
-calls_none Bkspce h = absurd (cc)
-calls_none Enfile h = absurd (cc)
-calls_none Output h = absurd (cc)
-calls_none Rewind h = absurd (cc)
-calls_none Stprnt h = absurd (cc)
-calls_none Stread h = absurd (cc)
-calls_none _ h = refl
-
-alone : (program : Program) → AreExpanded program → (k : ℕ) (st : Statement) → slice_get program.statements k ≡ Some st → calls_unit st.name ≡ false
-alone program built k st is =
-    calls_none st.name (subst (λ s. is_expanded s.name ≡ true) (get_or_from_slice_get program.statements k st st is) (built k st (slice_get_within program.statements k st is)))
 
 -- where no operation writes records, none is allowed to
 hushed : (b : Bool) → b ≡ true → not b ≡ false
@@ -67,9 +47,9 @@ module _ (program : Program) (parameters : Parameters) (c : MicroCode) (good : I
   pub same_texts : flat_map (λ text. text) c.formats ≡ flat_map (λ text. text) program.formats
   same_texts = ap (flat_map (λ text. text)) x.formats
 
-  pub behave : AreExpanded program → LawOfSteps → LawOfUnits → StepsWithinCosts program parameters c → (words places : List ℕ) → Carries settings c words places → BehaveAs program parameters words places
-  behave built steady units steps words places carries image of words_are places_are =
+  pub behave : LawOfSteps → StepsWithinCosts program parameters c → (words places : List ℕ) → Carries settings c words places → BehaveAs program parameters words places
+  behave steady steps words places carries image of words_are places_are =
       let ops = carries image of.same_settings words_are (of.constants ∙ sym same_texts) places_are in
       law image program parameters (last_place settings c) (not (all_ops is_quiet c.ops)) (steady program parameters good) of
-      (carries_out program parameters c image x steps of ops good units (alone program built))
+      (carries_out program parameters c image x steps of ops good)
       (λ silent. hushed (all_ops is_quiet c.ops) (x.quiet silent))

@@ -11,16 +11,16 @@ use Rattle.sil_model.specs.declared.end.End.TheVariants as ends
 use Rattle.sil_model.specs.declared.program.Flow.TheVariants.{Next, To, Exit, Trap}
 use Rattle.sil_model.specs.declared.program.Program.{Program}
 use Rattle.sil_model.specs.declared.program.Statement.{Statement}
-use Rattle.sil_model.specs.Costs.{cost}
+use Rattle.sil_runs.specs.Costs.{cost}
 use Rattle.sil_model.specs.Effects.{Effect}
 use Rattle.sil_model.specs.Effects as effects
-use Rattle.sil_model.specs.Machine.{make_step, settle}
+use Rattle.sil_runs.specs.Machine.{make_step}
+use Rattle.sil_model.specs.Settling.{settle}
 use Rattle.sil_model.specs.Sites.{site_of}
 use Rattle.sil_model.specs.Start.{first_state}
 use Rattle.sil_model.specs.States as machine
 use Rattle.sil_model.specs.States.{Step, Goes, Ends}
-use Rattle.sil_model.specs.Table.{clause, calls_unit}
-use Rattle.sil_model.specs.UnitLaws.{KeepsTapes, LawOfUnits}
+use Rattle.sil_runs.specs.Table.{clause}
 use Rattle.sil_model.specs.Valid.{IsValid}
 use Rattle.sil_model.specs.WellFormed.{IsWellFormed}
 use Rattle.sil_micro.specs.declared.op.Op.TheVariants.{Begin}
@@ -47,7 +47,8 @@ use Rattle.rv_emit.specs.Carries.{CarriesOps}
 use Rattle.rv_emit.specs.Code.{last_place, place_from, places_of}
 use Rattle.rv_emit.specs.Parts.{IsImageOf}
 use Rattle.rv_emit.specs.Represents.{Represents}
-use Rattle.rv_emit.specs.Ways.{place, ComesTo, EndsAs, Makes, CarriesOut}
+use Rattle.rv_emit.specs.StatementPlaces.{place}
+use Rattle.sil_install.specs.Ways.{ComesTo, EndsAs, Makes, CarriesOut}
 use Rattle.sil_install.proofs.Carrying.{Proper, Arrives, goes, run_more, met_more}
 use Rattle.sil_install.proofs.First.{regions, represents as first_represents}
 use Rattle.sil_install.proofs.Slots.{kept}
@@ -57,26 +58,24 @@ use Rattle.sil_install.proofs.Standing.{stood, file, stands, represents}
 
 abbrev IsOwn : ℕ → Step → Type 0
 IsOwn count (Goes m) = Unit {0}
-IsOwn count (Ends None tapes) = ⊥
+IsOwn count (Ends None tapes) = Unit {0}
 IsOwn count (Ends (Some ends.Budget) tapes) = ⊥
 IsOwn count (Ends (Some (ends.Undefined k)) tapes) = k < count
 IsOwn count (Ends (Some _) tapes) = Unit {0}
 
-own : (count : ℕ) (m : machine.State) (e : Effect) → m.statement < count → KeepsTapes m.tapes e → IsOwn count (settle m e)
-unfolding KeepsTapes
-own count m None lt h = lt
-own count m (Some (effects.On Next, t)) lt h = tt
-own count m (Some (effects.On (To k), t)) lt h = tt
-own count m (Some (effects.On (Exit code), t)) lt h = tt
-own count m (Some (effects.On Trap, t)) lt h = tt
-own count m (Some (effects.Undefined, t)) lt h = absurd h
-own count m (Some (effects.UnitFault unit, t)) lt h = absurd h
-own count m (Some (effects.Untold, t)) lt h = absurd h
+own : (count : ℕ) (m : machine.State) (e : Effect) → m.statement < count → IsOwn count (settle m e)
+own count m None lt = lt
+own count m (Some (effects.On Next, t)) lt = tt
+own count m (Some (effects.On (To k), t)) lt = tt
+own count m (Some (effects.On (Exit code), t)) lt = tt
+own count m (Some (effects.On Trap, t)) lt = tt
+own count m (Some (effects.Undefined, t)) lt = lt
+own count m (Some (effects.UnitFault unit, t)) lt = tt
+own count m (Some (effects.Untold, t)) lt = tt
 
-own_step : (count : ℕ) (program : Program) (parameters : Parameters) (st : Statement) (m : machine.State) → LawOfUnits → calls_unit st.name ≡ false → m.statement < count → IsOwn count (make_step program parameters st m)
+own_step : (count : ℕ) (program : Program) (parameters : Parameters) (st : Statement) (m : machine.State) → m.statement < count → IsOwn count (make_step program parameters st m)
 unfolding make_step
-own_step count program parameters st m units alone lt =
-    own count m (clause st.name (site_of program parameters m.statement st) m) lt (units st.name (site_of program parameters m.statement st) m alone)
+own_step count program parameters st m lt = own count m (clause st.name (site_of program parameters m.statement st) m) lt
 
 proper_end : (count : ℕ) (end : Option End) (u : Micro) (tapes : Tapes) → IsOwn count (Ends end tapes) → Proper count (micro.Ended end u)
 proper_end count None u tapes h = tt
@@ -93,7 +92,7 @@ proper count c (micro.Ended end u) (Ends end' tapes) most makes h = proper_end c
 proper count c (micro.Ended end u) (Goes m) most makes h = absurd makes
 proper count c IsStuck w most makes h = tt
 
-module _ (program : Program) (parameters : Parameters) (c : MicroCode) (image : Image) (x : IsExpansion program c) (steps : StepsWithinCosts program parameters c) (of : IsImageOf image program parameters.settings) (carries : CarriesOps image parameters.settings c) (good : IsWellFormed program parameters.settings) (units : LawOfUnits) (alone : (k : ℕ) (st : Statement) → slice_get program.statements k ≡ Some st → calls_unit st.name ≡ false) where
+module _ (program : Program) (parameters : Parameters) (c : MicroCode) (image : Image) (x : IsExpansion program c) (steps : StepsWithinCosts program parameters c) (of : IsImageOf image program parameters.settings) (carries : CarriesOps image parameters.settings c) (good : IsWellFormed program parameters.settings) where
   abbrev settings : Settings
   settings = parameters.settings
 
@@ -196,7 +195,9 @@ module _ (program : Program) (parameters : Parameters) (c : MicroCode) (image : 
       made (micro.Ended (Some end) v) (Ends end' tapes) most way (same, kept_tapes, le) h =
           subst (λ e. Comes image last prints most s (emulator.Ended (option_map as_end e) tapes)) same
           (subst (λ ts. Comes image last prints most s (emulator.Ended (Some (as_end end)) ts)) kept_tapes (comes_within image last prints v.spent most s (emulator.Ended (Some (as_end end)) v.state.tapes) way le))
-      made (micro.Ended None v) (Ends end' tapes) most way (same, kept_tapes, le) h = absurd (subst (λ e. IsOwn (length c.entries) (Ends e tapes)) (sym same) h)
+      made (micro.Ended None v) (Ends end' tapes) most way (same, kept_tapes, le) h =
+          subst (λ e. Comes image last prints most s (emulator.Ended (option_map as_end e) tapes)) same
+          (subst (λ ts. Comes image last prints most s (emulator.Ended None ts)) kept_tapes (comes_within image last prints v.spent most s (emulator.Ended None v.state.tapes) way le))
       made (At q v) (Ends end tapes) most way makes h = absurd makes
       made (micro.Ended end v) (Goes m') most way makes h = absurd makes
       made IsStuck w most way makes h = absurd makes
@@ -225,7 +226,7 @@ module _ (program : Program) (parameters : Parameters) (c : MicroCode) (image : 
     statement m s st is valid some pc rep =
         let lt = slice_get_within program.statements m.statement st is in
         let left : nat_lt m.steps n ≡ true = grind (arith, nat_tests, some) in
-        step_made m s valid rep pc lt (make_step program parameters st m) (cost program parameters st m) left (own_step (length c.entries) program parameters st m units (alone m.statement st is) (omega (arith, lt, x.statements)))
+        step_made m s valid rep pc lt (make_step program parameters st m) (cost program parameters st m) left (own_step (length c.entries) program parameters st m (omega (arith, lt, x.statements)))
         (steps n small m.statement st (stood m s) is valid some)
 
     past : (m : machine.State) (s : State) → m.statement ≡ length program.statements → IsValid program settings m → s.pc ≡ last → Represents settings n m s → EndsAs image last false STATEMENT_INSTRUCTIONS s (Some (ends.Undefined m.statement)) m.tapes

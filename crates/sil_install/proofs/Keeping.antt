@@ -3,6 +3,7 @@ use Rattle.std.proofs.Common.{◌≡◌, ℕ, zero, suc, List, Option, Some, Non
 use Rattle.std.specs.Prelude.{ℤ, pos, negsuc, if◌then◌else◌}
 use Rattle.unit_io.specs.Tapes.{TapeState}
 use Rattle.unit_io.specs.Numbered.{unit_at}
+use Rattle.unit_calls.specs.CallsMade.{Made, read}
 use Rattle.layout_params.specs.declared.cell.Field.{Field}
 use Rattle.sil_model.specs.Access.{field_at, set_field_at, set_whole_at, char_at, set_char_at}
 use Rattle.sil_model.specs.CellWords.{kind_at, set_kind_at, word_at, set_word_at}
@@ -12,14 +13,18 @@ use Rattle.sil_model.specs.declared.table.Table.{Table}
 use Rattle.sil_micro.specs.declared.op.Area.{Area}
 use Rattle.sil_micro.specs.declared.op.Area.TheVariants as areas
 use Rattle.sil_micro.specs.declared.op.Target.{Target}
+use Rattle.sil_micro.specs.declared.op.Text.{Text}
+use Rattle.sil_micro.specs.declared.op.Text.TheVariants as texts
+use Rattle.sil_micro.specs.declared.op.Values.{Values}
 use Rattle.sil_micro.specs.declared.op.Op.{Op}
 use Rattle.sil_micro.specs.declared.op.Op.TheVariants.{Const, Copy, Arith, Jump, JumpIf, JumpEntry, JumpReturn, LoadField, StoreField, StoreCell, LoadChar, StoreChar, LoadWord, StoreWord, UnitCall, Begin, End as EndBy}
-use Rattle.sil_micro.specs.Operations.{Effect, On, To, ToReturn, Over, Stuck, act, load, load_char, store, store_state, set_state_word, state_word, store_scratch, set_scratch, scratch_word, load_table, store_tables, load_word, store_word, jump_if, jump_entry, entered_statement, unit_fault, end_by, call_on, call_if}
+use Rattle.sil_model.specs.Entries.{entered_statement}
+use Rattle.sil_micro.specs.Operations.{Effect, On, To, ToReturn, Over, Stuck, act, load, load_char, store, store_state, set_state_word, state_word, store_scratch, set_scratch, scratch_word, load_table, store_tables, load_word, store_word, jump_if, jump_entry, unit_fault, end_by, call_on, call_if, read_answered, read_into, told_call, unit_held}
 use Rattle.sil_micro.specs.Pieces.{is_no_begin}
 use Rattle.sil_micro.specs.MicroStates.{Setting, Micro, held}
 use Rattle.sil_micro.specs.TableWords.{table_word, set_table_word}
-use Rattle.sil_micro.specs.UnitCalls.{can_call}
-use Rattle.sil_micro.specs.MicroWords.{holds, same_integer, low_byte, unsigned}
+use Rattle.sil_micro.specs.UnitCalls.{can_call, chars_read, set_chars_from}
+use Rattle.sil_micro.specs.MicroWords.{holds, same_integer, low_byte}
 
 -- a state has the weight and the statement's number of another
 abbrev pub Same : Micro → Micro → Type 0
@@ -104,13 +109,33 @@ ends (pos (suc (suc (suc (suc (suc zero)))))) u = faults u.failed u
 ends (pos (suc (suc (suc (suc (suc (suc n))))))) u = tt
 ends (negsuc n) u = tt
 
-calls_on : (o : Option (Option TapeState)) (to : ℕ) (u : Micro) → Keeps u (call_on o to u)
-calls_on None to u = (refl, refl)
-calls_on (Some unit) to u = (refl, refl)
+reads : (o : Option Memory) (unit to : ℕ) (u : Micro) (made : Made) → Keeps u (read_answered o unit to u made)
+reads None unit to u made = tt
+reads (Some m) unit to u made = (refl, refl)
 
-calls_if : (b : Bool) (unit : ℤ) (to : ℕ) (u : Micro) → Keeps u (call_if b unit to u)
-calls_if false unit to u = tt
-calls_if true unit to u = calls_on (unit_at u.state.tapes (unsigned unit)) to u
+reads_into : (text : Text) (unit to : ℕ) (u : Micro) (t : TapeState) → Keeps u (read_into text unit to u t)
+reads_into texts.None unit to u t = tt
+reads_into (texts.Format i) unit to u t = tt
+reads_into (texts.Chars at len) unit to u t = reads (set_chars_from u.state.memory (held u.registers at) (chars_read u at len t)) unit to u (read t)
+
+calls_told : (g : Setting) (call : ℕ) (text : Text) (values : Values) (unit to : ℕ) (u : Micro) (t : TapeState) → Keeps u (told_call g call text values unit to u t)
+calls_told g zero text values unit to u t = tt
+calls_told g (suc zero) text values unit to u t = tt
+calls_told g (suc (suc zero)) text values unit to u t = reads_into text unit to u t
+calls_told g (suc (suc (suc zero))) text values unit to u t = (refl, refl)
+calls_told g (suc (suc (suc (suc zero)))) text values unit to u t = (refl, refl)
+calls_told g (suc (suc (suc (suc (suc zero))))) text values unit to u t = (refl, refl)
+calls_told g (suc (suc (suc (suc (suc (suc zero)))))) text values unit to u t = (refl, refl)
+calls_told g (suc (suc (suc (suc (suc (suc (suc n))))))) text values unit to u t = tt
+
+calls_on : (o : Option (Option TapeState)) (to : ℕ) (u : Micro) (call : TapeState → Effect) → ((t : TapeState) → Keeps u (call t)) → Keeps u (call_on o to u call)
+calls_on None to u call h = (refl, refl)
+calls_on (Some None) to u call h = (refl, refl)
+calls_on (Some (Some t)) to u call h = h t
+
+calls_if : (b : Bool) (unit to : ℕ) (u : Micro) (call : TapeState → Effect) → ((t : TapeState) → Keeps u (call t)) → Keeps u (call_if b unit to u call)
+calls_if false unit to u call h = tt
+calls_if true unit to u call h = calls_on (unit_at u.state.tapes unit) to u call h
 
 -- every operation but a Begin keeps both
 pub keeps : (g : Setting) (op : Op) (u : Micro) → is_no_begin op ≡ true → Keeps u (act g op u)
@@ -128,7 +153,8 @@ keeps g (LoadChar to at) u h = loads_char (char_at u.state.memory (held u.regist
 keeps g (StoreChar at from) u h = stores (set_char_at u.state.memory (held u.registers at) (low_byte (held u.registers from))) u
 keeps g (LoadWord area to at) u h = loads_word area (held u.registers at) to u
 keeps g (StoreWord area at from) u h = stores_word area (held u.registers at) (held u.registers from) u
-keeps g (UnitCall call unit to text values) u h = calls_if (can_call g u call text values) (held u.registers unit) to u
+keeps g (UnitCall call unit to text values) u h =
+    calls_if (can_call g u call text values) (unit_held u unit) to u (told_call g call text values (unit_held u unit) to u) (calls_told g call text values (unit_held u unit) to u)
 keeps g (Begin k) u h = absurd (cc)
 keeps g (EndBy by) u h = ends (held u.registers by) u
 

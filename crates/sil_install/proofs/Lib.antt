@@ -1,15 +1,15 @@
-mod Counts
-mod Alike
-mod Entries
-mod FirstMemory
-mod Stack
-mod Slots
-mod Keeping
-mod Carrying
-mod Standing
-mod First
-mod Join
-mod Expanding
-mod TableBytes
-mod Whole
-mod BuiltNames
+pub mod Counts
+pub mod Alike
+pub mod Entries
+pub mod FirstMemory
+pub mod Stack
+pub mod Slots
+pub mod Keeping
+pub mod Carrying
+pub mod Standing
+pub mod First
+pub mod Join
+pub mod Expanding
+pub mod TableBytes
+pub mod Whole
+pub mod BuiltNames

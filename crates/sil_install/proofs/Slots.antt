@@ -1,6 +1,8 @@
 -- What stands in the place of x0 is never written.
 use Rattle.std.proofs.Common.{◌≡◌, ℕ, zero, suc, List, [], ◌∷◌, Option, Some, None, Bool, true, false, refl, sym, ap, ◌∙◌, set}
 use Rattle.std.specs.Prelude.{ℤ, slice_index, slice_set, if◌then◌else◌}
+use Rattle.unit_io.specs.Numbered.{unit_at}
+use Rattle.unit_io.specs.Tapes.{TapeState}
 use Rattle.rv_isa.specs.declared.instr.IOp.{IOp}
 use Rattle.rv_isa.specs.declared.instr.IOp.TheVariants.{Addi, Slti, Sltiu, Xori, Ori, Andi, Slli, Srli, Srai, Lb, Lh, Lw, Ld, Lbu, Lhu, Lwu, Jalr, Addiw, Slliw, Srliw, Sraiw, Fence}
 use Rattle.rv_isa.specs.declared.instr.UOp.TheVariants.{Lui, Auipc}
@@ -12,7 +14,7 @@ use Rattle.image_file.specs.Image.{Image}
 use Rattle.rv_emulate.specs.Ecalls.{is_unit_call}
 use Rattle.rv_emulate.specs.EmulatorMemory.{Memory, loaded, stored}
 use Rattle.rv_emulate.specs.EmulatorStates.{State, Outcome, On, Ended, register, with_register}
-use Rattle.rv_emulate.specs.EmulatorSteps.{act, i_step, load_step, store_step, answer, ended, with_instr, with_word, word_at, step, sum64, s_width, extended_from}
+use Rattle.rv_emulate.specs.EmulatorSteps.{act, i_step, load_step, store_step, answer, answer_on, ended, unit_of, with_instr, with_word, word_at, step, sum64, s_width, extended_from}
 use Rattle.rv_emulate.specs.EmulatorRuns.{run, on_state}
 use Rattle.std.specs.Option.{option_map}
 
@@ -37,8 +39,13 @@ store_has : (s : State) (o : Option Memory) → Has (here s) (store_step s o)
 store_has s None = tt
 store_has s (Some m) = refl
 
-call_has : (image : Image) (s : State) (b : Bool) → Has (here s) (if b then answer s else ended image s)
-call_has image s true = first_with s.registers 10 _
+answer_has : (image : Image) (s : State) (o : Option (Option TapeState)) → Has (here s) (answer_on image s o)
+answer_has image s None = first_with s.registers 10 _
+answer_has image s (Some None) = tt
+answer_has image s (Some (Some t)) = first_with s.registers 10 _
+
+call_has : (image : Image) (s : State) (b : Bool) → Has (here s) (if b then answer image s else ended image s)
+call_has image s true = answer_has image s (unit_at s.tapes (unit_of s))
 call_has image s false = tt
 
 i_has : (image : Image) (op : IOp) (s : State) (rd x : ℕ) (imm : ℤ) → Has (here s) (i_step image op s rd x imm)

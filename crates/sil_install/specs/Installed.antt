@@ -10,8 +10,8 @@ use Rattle.unit_io.specs.RunEnds.{Run}
 use Rattle.sil_model.specs.States as machine
 use Rattle.sil_model.specs.States.{Goes}
 use Rattle.sil_model.specs.Start.{first_state}
-use Rattle.sil_model.specs.Machine.{machine, after}
-use Rattle.sil_model.specs.Costs.{cost}
+use Rattle.sil_runs.specs.Machine.{machine, after}
+use Rattle.sil_runs.specs.Costs.{cost}
 use Rattle.sil_model.specs.Prints.{IsSilent}
 use Rattle.image_file.specs.Image.{Image, IsImage}
 use Rattle.image_file.specs.Spelling.{spelling}
@@ -22,7 +22,7 @@ use Rattle.rv_emulate.specs.EmulatorStates.{State, Outcome, On, Ended, start, st
 use Rattle.rv_emulate.specs.EmulatorRuns.{run, met, entry_at, emulation, budget}
 use Rattle.rv_emulate.specs.AlongRuns.{Calls}
 use Rattle.rv_emit.specs.Represents.{Represents}
-use Rattle.rv_emit.specs.Ways.{place}
+use Rattle.rv_emit.specs.StatementPlaces.{place}
 use Rattle.rv_operations.specs.Does.{as_end}
 
 -- the same end, equal tapes and equal lists of statements

@@ -1,4 +1,5 @@
 pub mod Installed
+pub mod Ways
 pub mod Law
 pub mod Emission
 pub mod TableBytes

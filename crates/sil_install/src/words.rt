@@ -11,7 +11,8 @@ use layout_params::Params;
 use macro_expand::expand_all;
 use rv_emit::{Emitted, emit};
 use sil_micro::Code;
-use sil_model::{Program, law_of_steps, law_of_units};
+use sil_model::Program;
+use sil_runs::law_of_steps;
 use std::alloc::{AllocError, Global};
 
 /// The operations of a code keep their rules and can be numbered, and each statement has a place for
@@ -37,7 +38,6 @@ pub fn program_words(
     ensures behave { IfOk result (λ e. BehaveAs program.now params.now e.words e.places) }
 {
     law_of_steps();
-    law_of_units();
     let code = expand_all(alloc, program, params)?;
     code_keeps_rules(&code);
     let emitted = emit(alloc, &code, params.numbers(), params)?;

@@ -1,3 +1,5 @@
 pub mod Meeting
 pub mod OnSites
 pub mod Turns
+pub mod KeptUnits
+pub mod UnitMeeting

@@ -8,7 +8,8 @@ use Rattle.sil_model.specs.declared.end.End.TheVariants.{Undefined, Budget}
 use Rattle.sil_model.specs.declared.end.End.TheVariants as ends
 use Rattle.sil_model.specs.declared.program.Program.{Program}
 use Rattle.sil_model.specs.declared.program.Statement.{Statement}
-use Rattle.sil_model.specs.Machine.{make_step, step, run, after_step, ended, meet, ends_with, with_statement}
+use Rattle.sil_runs.specs.Machine.{make_step, step, run, after_step, ended, meet, with_statement}
+use Rattle.sil_model.specs.Settling.{ends_with}
 use Rattle.sil_model.specs.States.{State, Step, Goes, Ends, is_told}
 use Rattle.sil_machine.specs.Outcomes.{RunOutcome, outcome_of, end_at, IsAs}
 use Rattle.sil_machine.specs.Positions.{Makes, ended_with_memory, left}
@@ -91,3 +92,12 @@ turn_none program parameters n s whole e so w = sym (outcome_none program parame
 pub same_run : (o : RunOutcome) → IsAs o o
 unfolding IsAs
 same_run o w = refl
+
+no_fault : (o : Option Statement) (n k unit : ℕ) → with_statement o (Undefined n) (λ statement. Budget) ≡ ends.UnitFault k unit → ⊥
+no_fault None n k unit e = cc
+no_fault (Some statement) n k unit e = cc
+
+-- where no steps are left no unit fails
+pub end_without_fault : (program : Program) (n k unit : ℕ) → end_at program n ≡ ends.UnitFault k unit → ⊥
+unfolding end_at
+end_without_fault program n k unit e = no_fault (slice_get program.statements n) n k unit e

@@ -2,9 +2,8 @@
 use Rattle.std.specs.Prelude.{◌≡◌, ℕ, Bool, true, false, Option, Some, None, Result, Ok, Err}
 use Rattle.unit_io.specs.Tapes.{Tapes}
 use Rattle.sil_model.specs.declared.program.Flow.{Flow}
-use Rattle.sil_model.specs.Effects.{MemoryEffect, Effect, Undefined, UnitFault, Untold, goes}
-use Rattle.sil_model.specs.Machine.{settle}
-use Rattle.sil_model.specs.Memory.{Memory}
+use Rattle.sil_model.specs.Effects.{Effect, Undefined, UnitFault, Untold, goes}
+use Rattle.sil_model.specs.Settling.{settle}
 use Rattle.sil_model.specs.States.{State, is_told}
 use Rattle.sil_machine.specs.declared.parts.Parts.{Parts}
 use Rattle.sil_machine.specs.declared.parts.Stop.{Stop}

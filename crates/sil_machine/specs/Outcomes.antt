@@ -6,7 +6,7 @@ use Rattle.sil_model.specs.declared.end.End.{End}
 use Rattle.sil_model.specs.declared.end.End.TheVariants.{Undefined, Budget}
 use Rattle.sil_model.specs.declared.program.Program.{Program}
 use Rattle.sil_model.specs.States.{State}
-use Rattle.sil_model.specs.Machine.{run, with_statement}
+use Rattle.sil_runs.specs.Machine.{run, with_statement}
 
 -- the end of a run, if it has one, and the tapes then
 pub record RunOutcome : Type 0 where

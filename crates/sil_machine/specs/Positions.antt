@@ -1,5 +1,5 @@
 -- What contracts see of a machine between two steps.
-use Rattle.std.specs.Prelude.{◌≡◌, ℕ, ◌+◌, ◌<◌, Bool, true, false, Option, Some, None, Result, Ok, Err, slice_get}
+use Rattle.std.specs.Prelude.{◌≡◌, ℕ, ◌+◌, ◌<◌, Bool, true, false, Option, Some, None, Result, Ok, Err, IfSome, slice_get}
 use Rattle.sil_base.specs.declared.limits.TheConstants.{MAX_STEPS}
 use Rattle.unit_io.specs.Tapes.{Tapes, no_tapes}
 use Rattle.layout_params.specs.Parameters.{Parameters}
@@ -7,9 +7,11 @@ use Rattle.sil_model.specs.declared.end.End.{End}
 use Rattle.sil_model.specs.declared.end.End.TheVariants as ends
 use Rattle.sil_model.specs.declared.program.Program.{Program}
 use Rattle.sil_model.specs.States.{State, Step, Goes, Ends, is_told}
-use Rattle.sil_model.specs.Machine.{step, with_statement}
+use Rattle.sil_runs.specs.Machine.{step, with_statement}
 use Rattle.sil_model.specs.Start.{first_state}
+use Rattle.sil_model.specs.Sites.{site_of}
 use Rattle.sil_machine.specs.MachineParts.{state_of}
+use Rattle.sil_machine.specs.UnitStatements.{IsCut}
 use Rattle.sil_machine.specs.declared.state.Position.{Position}
 use Rattle.sil_machine.specs.declared.machine.Step.{Step as Answer}
 use Rattle.sil_machine.specs.declared.machine.Step.TheVariants.{Next, Stop}
@@ -38,6 +40,10 @@ ended_with_memory _ = true
 -- a call makes this step, unless there was no memory or the step calls a unit that doesn't tell its tape
 unfoldable pub Makes : Step → Result (Unit {0}) End → State → Type 0
 Makes r result s = ended_with_memory result ≡ true → is_told r ≡ true → r ≡ left result s
+
+-- what want of memory leaves of the tapes, at the statement of a position
+unfoldable pub IsCutAt : Program → Parameters → Position → Tapes → Tapes → Type 0
+IsCutAt program parameters p before after = IfSome (slice_get program.statements p.statement) (λ statement. IsCut statement.name (site_of program parameters p.statement statement) p.parts.cells before after)
 
 -- a machine stands at a position, or has ended after so many steps
 pub data Outcome : Type 0 where
@@ -109,6 +115,11 @@ steps_then program (HasEnded steps end) = steps
 abbrev pub HasRun : Outcome → Type 0
 HasRun (Stands p) = ⊥
 HasRun (HasEnded steps end) = Unit {0}
+
+-- what want of memory leaves of the tapes in a step; a machine that has ended keeps them
+abbrev pub CutsStep : Running → Outcome → Tapes → Tapes → Type 0
+CutsStep r (Stands p) before after = IsCutAt r.program r.parameters p before after
+CutsStep r (HasEnded steps end) before after = after ≡ before
 
 -- a machine that has ended can step, and one that has taken fewer than 2^40 steps
 abbrev pub CanStep : Outcome → Type 0

@@ -1,7 +1,7 @@
 // The macros that go by the entries of statements.
 ghost use Rattle.std.specs.Prelude.{◌≡◌, ◌<◌, ℕ};
 ghost use Rattle.unit_io.specs.Tapes.{Tapes};
-ghost use Rattle.sil_model.specs.CallClauses.{branic, location_at, location_or, rcall, rrturn};
+ghost use Rattle.flow_clauses.specs.CallClauses.{branic, location_at, location_or, rcall, rrturn};
 ghost use Rattle.sil_model.specs.Effects.{after_flow};
 ghost use Rattle.sil_machine.specs.MachineParts.{left_by, state_of};
 
@@ -11,7 +11,7 @@ use flow_clauses::{above, hand_back, nth_location, read_all, write_frame};
 use sil_model::{Cells, Flow, a_field, goto, goto_list, maybe_number, maybe_place, number, place};
 
 /// `BRANIC D,N`: to the statement whose entry is [D.A + N].A.
-#[tactic(auto, unfolding(sil_model::specs::CallClauses::branic, sil_model::specs::Integers::wrapped_sum))]
+#[tactic(auto, unfolding(flow_clauses::specs::CallClauses::branic, sil_model::specs::Integers::wrapped_sum))]
 pub fn branic(site: &Site, cells: &Cells) -> Option<Flow>
     ensures { branic site.now cells.now ≡ after_flow result cells.now }
 {
@@ -23,7 +23,7 @@ pub fn branic(site: &Site, cells: &Cells) -> Option<Flow>
 }
 
 /// `RCALL D?,R,DD?,LL`: a new frame begins; to R, or to OVER where there is no room.
-#[tactic(auto, unfolding(sil_model::specs::CallClauses::rcall))]
+#[tactic(auto, unfolding(flow_clauses::specs::CallClauses::rcall))]
 pub fn rcall(site: &Site, parts: &mut Parts) -> Option<Flow>
     ensures { (k steps : ℕ) (tapes : Tapes) → rcall site.now (state_of k steps parts.old tapes) ≡ left_by result (state_of k steps parts.new tapes) }
 {
@@ -62,7 +62,7 @@ fn location_or(other: u32, location: Option<u32>) -> u32
 
 /// `RRTURN D?,N?`: the frame goes; D goes to the descriptor of the RCALL that made it; to the N-th
 /// location of that RCALL, or to the statement after it.
-#[tactic(auto, unfolding(sil_model::specs::CallClauses::rrturn))]
+#[tactic(auto, unfolding(flow_clauses::specs::CallClauses::rrturn))]
 pub fn rrturn(site: &Site, parts: &mut Parts) -> Option<Flow>
     ensures { (k steps : ℕ) (tapes : Tapes) → rrturn site.now (state_of k steps parts.old tapes) ≡ left_by result (state_of k steps parts.new tapes) }
 {

@@ -3,29 +3,37 @@ ghost use Rattle.std.specs.Prelude.{◌≡◌, ◌≤◌, ℕ, Err, false, true}
 ghost use Rattle.unit_io.specs.Tapes.{Tapes};
 ghost use Rattle.unit_io.specs.Units.{RoseAt, tapes_of};
 ghost use Rattle.sil_model.specs.Prints.{writes_records};
-ghost use Rattle.sil_model.specs.Table.{calls_unit, clause};
+ghost use Rattle.sil_model.specs.UnitMacros.{calls_unit};
+ghost use Rattle.sil_runs.specs.Table.{clause};
+ghost use Rattle.sil_machine.specs.KeptUnits.{KeepsUnits};
 ghost use Rattle.sil_machine.specs.MachineParts.{Meets, left_by, state_of};
+ghost use Rattle.sil_machine.specs.UnitStatements.{IsCut};
 
 use crate::calls::{branic, rcall, rrturn};
 use crate::parts::{Parts, Stop};
 use crate::site::Site;
 use crate::stack::{istack, pop, pstack, push, spop, spush};
 use crate::system::{init, mstime};
-use flow_clauses::{branch, load, selbra};
-use sil_base::MAX_STEPS;
-use sil_clauses::{
-    acomp, acompc, adjust, aeql, aeqlc, aeqlic, chkval, decra, deql, divide, endex, getac, getd,
-    getdc, getsiz, incra, incrv, lcomp, leqlc, mnsint, mova, movd, movdic, movv, mult, multc,
-    putac, putd, putdc, putvc, resetf, rsetfi, setac, setav, setf, setfi, setsiz, setva, setvc,
+use crate::units::{backspace, endfile, output, rewind};
+use choice_clauses::{
+    acomp, acompc, aeql, aeqlc, aeqlic, chkval, deql, divide, lcomp, leqlc, mnsint, mult, multc,
     subtrt, sum, testf, testfi, vcmpic, veql, veqlc,
 };
+use descr_clauses::{
+    adjust, decra, getac, getd, getdc, getsiz, incra, incrv, mova, movd, movdic, movv, putac, putd,
+    putdc, putvc, resetf, rsetfi, setac, setav, setf, setfi, setsiz, setva, setvc,
+};
+use flow_clauses::{branch, endex, load, selbra};
+use sil_base::MAX_STEPS;
 use sil_macros::Macro;
 use sil_model::Flow;
+use std::alloc::Global;
 use unit_io::UnitSet;
 
-/// What a statement does whose macro calls a unit. None of these macros is built yet.
-#[tactic(auto, unfolding(sil_model::specs::Table::clause), using(crate::proofs::Meeting::meets))]
+/// What a statement does whose macro calls a unit.
+#[tactic(auto, unfolding(sil_runs::specs::Table::clause, descr_clauses::specs::DescrTable::descr_clause, choice_clauses::specs::ChoiceTable::choice_clause, flow_clauses::specs::FlowTable::flow_clause, unit_clauses::specs::UnitTable::unit_clause), using(crate::proofs::Meeting::meets, crate::proofs::KeptUnits::kept_units))]
 fn perform_on_units<U: UnitSet>(
+    alloc: Global,
     name: Macro,
     site: &Site,
     parts: &mut Parts,
@@ -35,16 +43,21 @@ fn perform_on_units<U: UnitSet>(
     ensures meets { (k steps : ℕ) → let s = state_of k steps parts.old (tapes_of (U.seen units.old))
         in Meets s (clause name site.now s) result (state_of k steps parts.new (tapes_of (U.seen units.new))) }
     ensures printing { result ≡ Err Stop.Memory → writes_records name ≡ true }
-    ensures cut { result ≡ Err Stop.Memory → tapes_of (U.seen units.new) ≡ tapes_of (U.seen units.old) }
+    ensures cut { result ≡ Err Stop.Memory → IsCut name site.now parts.old.cells (tapes_of (U.seen units.old)) (tapes_of (U.seen units.new)) }
     ensures faults { (unit : ℕ) → result ≡ Err (Stop.UnitFault unit) → RoseAt unit (U.seen units.old) (U.seen units.new) }
+    ensures kept { KeepsUnits (U.seen units.old) (U.seen units.new) }
 {
     match name {
+        Macro::Bkspce => backspace(site, parts, units),
+        Macro::Enfile => endfile(site, parts, units),
+        Macro::Output => output(alloc, site, parts, units),
+        Macro::Rewind => rewind(site, parts, units),
         _ => Err(Stop::Undefined),
     }
 }
 
 /// What a statement does whose macro calls no unit.
-#[tactic(auto, unfolding(sil_model::specs::Table::clause, sil_model::specs::FlowClauses::nothing, sil_model::specs::FlowClauses::trap))]
+#[tactic(auto, unfolding(sil_runs::specs::Table::clause, descr_clauses::specs::DescrTable::descr_clause, choice_clauses::specs::ChoiceTable::choice_clause, flow_clauses::specs::FlowTable::flow_clause, unit_clauses::specs::UnitTable::unit_clause, flow_clauses::specs::FlowClauses::nothing, flow_clauses::specs::FlowClauses::trap))]
 fn perform_alone(name: Macro, site: &Site, steps: u64, parts: &mut Parts) -> Option<Flow>
     requires few { steps ≤ MAX_STEPS }
     requires alone { calls_unit name ≡ false }
@@ -129,8 +142,9 @@ fn perform_alone(name: Macro, site: &Site, steps: u64, parts: &mut Parts) -> Opt
 }
 
 /// What a statement of this macro does.
-#[tactic(auto, using(crate::proofs::Meeting::meets))]
+#[tactic(auto, using(crate::proofs::Meeting::meets, crate::proofs::KeptUnits::kept_units))]
 pub fn perform<U: UnitSet>(
+    alloc: Global,
     name: Macro,
     site: &Site,
     steps: u64,
@@ -142,11 +156,12 @@ pub fn perform<U: UnitSet>(
         in Meets s (clause name site.now s) result (state_of k steps parts.new (tapes_of (U.seen units.new))) }
     ensures stays { calls_unit name ≡ false → U.seen units.new ≡ U.seen units.old }
     ensures printing { result ≡ Err Stop.Memory → writes_records name ≡ true }
-    ensures cut { result ≡ Err Stop.Memory → tapes_of (U.seen units.new) ≡ tapes_of (U.seen units.old) }
+    ensures cut { result ≡ Err Stop.Memory → IsCut name site.now parts.old.cells (tapes_of (U.seen units.old)) (tapes_of (U.seen units.new)) }
     ensures faults { (unit : ℕ) → result ≡ Err (Stop.UnitFault unit) → RoseAt unit (U.seen units.old) (U.seen units.new) }
+    ensures kept { KeepsUnits (U.seen units.old) (U.seen units.new) }
 {
     if calls_unit(name) {
-        perform_on_units(name, site, parts, units)
+        perform_on_units(alloc, name, site, parts, units)
     } else {
         match perform_alone(name, site, steps, parts) {
             Some(flow) => Ok(flow),

@@ -12,6 +12,7 @@ mod stack;
 mod state;
 mod system;
 mod tables;
+mod units;
 
 pub use machine::{Machine, Step, start};
 pub use sil_model::{

@@ -2,7 +2,8 @@
 ghost use Rattle.std.specs.Prelude.{◌≡◌, ◌≢◌, ◌+◌, ◌≤◌, ◌⊎◌, ℕ, IfOk, true};
 ghost use Rattle.unit_io.specs.Units.{RoseAt, tapes_of};
 ghost use Rattle.sil_model.specs.WellFormed.{IsWellFormed};
-ghost use Rattle.sil_machine.specs.Positions.{CanStep, HasRun, advance, answer_of, first_running, steps_of, steps_then, tapes_at, tells};
+ghost use Rattle.sil_machine.specs.KeptUnits.{KeepsUnits};
+ghost use Rattle.sil_machine.specs.Positions.{CanStep, CutsStep, HasRun, advance, answer_of, first_running, steps_of, steps_then, tapes_at, tells};
 
 use crate::simulation::first_position;
 use crate::state::{Position, step};
@@ -22,6 +23,7 @@ pub enum Step {
 /// A machine, which contracts see as its program, the parameters and where it stands, or its end.
 #[derive(Drop)]
 pub struct Machine<'p> {
+    alloc: Global,
     program: &'p Program,
     params: &'p Params,
     position: Position,
@@ -41,7 +43,7 @@ impl<'p> Model for Machine<'p> {
 
 impl<'p> Machine<'p> {
     /// One step. After an end it answers that end again.
-    #[tactic(auto, unfolding(crate::specs::Positions::Makes))]
+    #[tactic(auto, unfolding(crate::specs::Positions::Makes), using(crate::proofs::KeptUnits::kept_units))]
     pub fn step<U: UnitSet>(&mut self, units: &mut U) -> Step
         requires { CanStep self.old.outcome }
         ensures moves { result ≢ Step.Stop End.Memory → tells self.old self.old.outcome (tapes_of (U.seen units.old)) ≡ true → self.new ≡ advance self.old (tapes_of (U.seen units.old)) }
@@ -52,13 +54,20 @@ impl<'p> Machine<'p> {
         ensures counts { steps_of self.new.outcome ≡ steps_then self.old.program self.old.outcome }
         ensures one_more { steps_of self.new.outcome ≤ steps_of self.old.outcome + 1 }
         ensures rests { HasRun self.old.outcome → U.seen units.new ≡ U.seen units.old }
-        ensures cut { result ≡ Step.Stop End.Memory → HasRun self.old.outcome ⊎ (tapes_of (U.seen units.new) ≡ tapes_of (U.seen units.old)) }
+        ensures cut { result ≡ Step.Stop End.Memory → CutsStep self.old self.old.outcome (tapes_of (U.seen units.old)) (tapes_of (U.seen units.new)) }
         ensures faults { (k unit : ℕ) → result ≡ Step.Stop (End.UnitFault k unit) → HasRun self.old.outcome ⊎ RoseAt unit (U.seen units.old) (U.seen units.new) }
+        ensures kept { KeepsUnits (U.seen units.old) (U.seen units.new) }
     {
         if let Some(end) = self.ended {
             return Step::Stop(end);
         }
-        match step(self.program, self.params, &mut self.position, units) {
+        match step(
+            self.alloc,
+            self.program,
+            self.params,
+            &mut self.position,
+            units,
+        ) {
             Ok(()) => Step::Next,
             Err(end) => {
                 self.ended = Some(end);
@@ -88,6 +97,7 @@ pub fn start<'p>(
 {
     let position = first_position(alloc, program, params)?;
     Ok(Machine {
+        alloc,
         program,
         params,
         position,

@@ -1,8 +1,8 @@
 // Where the machine's areas lie.
 ghost use Rattle.std.specs.Prelude.{◌≡◌, ◌≤◌};
 ghost use Rattle.layout_params.specs.Areas.{all_cells, hidden_cells};
-ghost use Rattle.sil_model.specs.FlowClauses.{first_dynamic, past_dynamic};
-ghost use Rattle.sil_model.specs.StackClauses.{last_cell};
+ghost use Rattle.flow_clauses.specs.FlowClauses.{first_dynamic, past_dynamic};
+ghost use Rattle.flow_clauses.specs.StackClauses.{last_cell};
 
 use layout_params::Params;
 use sil_base::{FIRST_CELL, MAX_CELLS};

@@ -1,10 +1,11 @@
 // The start of a run, and whole runs.
-ghost use Rattle.std.specs.Prelude.{◌≡◌, ◌≢◌, ◌≤◌, IfOk, IsSome, Some, true};
+ghost use Rattle.std.specs.Prelude.{◌≡◌, ◌≢◌, ◌≤◌, ℕ, IfOk, IsSome, Some, true};
 ghost use Rattle.unit_io.specs.Tapes.{no_tapes};
-ghost use Rattle.unit_io.specs.Units.{tapes_of};
-ghost use Rattle.sil_model.specs.Machine.{machine};
+ghost use Rattle.unit_io.specs.Units.{RoseAt, tapes_of};
+ghost use Rattle.sil_runs.specs.Machine.{machine};
 ghost use Rattle.sil_model.specs.Start.{first_state};
 ghost use Rattle.sil_model.specs.WellFormed.{IsWellFormed};
+ghost use Rattle.sil_machine.specs.KeptUnits.{KeepsUnits};
 ghost use Rattle.sil_machine.specs.Positions.{position_of};
 
 use crate::parts::Parts;
@@ -48,8 +49,9 @@ pub fn first_position(
     })
 }
 
-/// Runs a program for at most n steps. `End::Memory` says that there was no memory to start in.
-#[tactic(auto, unfolding(sil_model::specs::Start::first_state, crate::specs::Outcomes::outcome_of, crate::specs::Outcomes::IsAs))]
+/// Runs a program for at most n steps. `End::Memory` says that there was no memory to start in, or to
+/// print.
+#[tactic(auto, unfolding(sil_model::specs::Start::first_state, crate::specs::Outcomes::outcome_of, crate::specs::Outcomes::IsAs), using(crate::proofs::KeptUnits::kept_units))]
 pub fn sim<U: UnitSet>(
     alloc: Global,
     program: &Program,
@@ -61,9 +63,11 @@ pub fn sim<U: UnitSet>(
     requires steps { n ≤ MAX_STEPS }
     ensures end { result ≢ End.Memory → IsSome (machine program.now params.now (tapes_of (U.seen units.old)) n).end → (machine program.now params.now (tapes_of (U.seen units.old)) n).end ≡ Some result }
     ensures tapes { result ≢ End.Memory → IsSome (machine program.now params.now (tapes_of (U.seen units.old)) n).end → tapes_of (U.seen units.new) ≡ (machine program.now params.now (tapes_of (U.seen units.old)) n).tapes }
+    ensures faults { (k unit : ℕ) → result ≡ End.UnitFault k unit → RoseAt unit (U.seen units.old) (U.seen units.new) }
+    ensures kept { KeepsUnits (U.seen units.old) (U.seen units.new) }
 {
     match first_position(alloc, program, params) {
         Err(_) => End::Memory,
-        Ok(mut at) => run(program, params, &mut at, n, units),
+        Ok(mut at) => run(alloc, program, params, &mut at, n, units),
     }
 }

@@ -2,10 +2,11 @@
 ghost use Rattle.std.specs.Prelude.{◌≡◌, ◌<◌, ◌≤◌, ◌^◌, IfSome, Some, length, pos, slice_get};
 ghost use Rattle.std.specs.Option.{option_copied};
 ghost use Rattle.sil_model.specs.Arguments.{maybe_places_at, places_at};
-ghost use Rattle.sil_model.specs.CallClauses.{call_at, entered, entry_of, is_between, is_top, statement_of};
-ghost use Rattle.sil_model.specs.FlowClauses.{first_dynamic, past_dynamic};
+ghost use Rattle.sil_model.specs.Entries.{entered_statement};
+ghost use Rattle.flow_clauses.specs.CallClauses.{call_at, entry_of, is_between, is_top, statement_of};
+ghost use Rattle.flow_clauses.specs.FlowClauses.{first_dynamic, past_dynamic};
 ghost use Rattle.sil_model.specs.Sites.{site_of};
-ghost use Rattle.sil_model.specs.StackClauses.{bottom, summit};
+ghost use Rattle.flow_clauses.specs.StackClauses.{bottom, summit};
 ghost use Rattle.sil_model.specs.WellFormed.{IsWellFormed};
 
 use crate::places::{first_dynamic, last_cell, past_dynamic};
@@ -119,7 +120,7 @@ impl<'p> Site<'p> {
     }
 
     /// Whether an address is the cell before the stack, or a cell of the stack.
-    #[tactic(auto, unfolding(sil_model::specs::CallClauses::is_top))]
+    #[tactic(auto, unfolding(flow_clauses::specs::CallClauses::is_top))]
     pub fn is_top(&self, at: i64) -> bool
         ensures { result ≡ is_top self.now at }
     {
@@ -146,11 +147,11 @@ impl<'p> Site<'p> {
         ensures few { IfSome result (λ k. k < MAX_STATEMENTS) }
     {
         let count = self.program.statements.items().len();
-        entered(limits_of(self.params).cell_size, count, entry)
+        entered_statement(limits_of(self.params).cell_size, count, entry)
     }
 
     /// The RCALL of a number.
-    #[tactic(auto, unfolding(sil_model::specs::CallClauses::call_at))]
+    #[tactic(auto, unfolding(flow_clauses::specs::CallClauses::call_at))]
     pub fn call(&self, k: u32) -> Option<&'p Statement>
         ensures { option_copied result ≡ call_at self.now k }
     {
@@ -164,11 +165,11 @@ impl<'p> Site<'p> {
 }
 
 /// The statement, of so many, whose entry a number is, where entries are so far apart.
-#[tactic(auto, unfolding(sil_model::specs::CallClauses::entered))]
-fn entered(size: u64, count: usize, entry: i64) -> Option<u32>
+#[tactic(auto, unfolding(sil_model::specs::Entries::entered_statement))]
+fn entered_statement(size: u64, count: usize, entry: i64) -> Option<u32>
     requires some { 0 < size }
     requires few { count ≤ MAX_STATEMENTS }
-    ensures value { result ≡ entered size count entry }
+    ensures value { result ≡ entered_statement size count entry }
     ensures few { IfSome result (λ k. k < MAX_STATEMENTS) }
 {
     let entry = u64::try_from(entry).ok()?;

@@ -1,7 +1,7 @@
 // The macros of the stack.
 ghost use Rattle.std.specs.Prelude.{◌≡◌, ℕ};
 ghost use Rattle.unit_io.specs.Tapes.{Tapes};
-ghost use Rattle.sil_model.specs.StackClauses.{istack, pop, pstack, push, spop, spush};
+ghost use Rattle.flow_clauses.specs.StackClauses.{istack, pop, pstack, push, spop, spush};
 ghost use Rattle.sil_machine.specs.MachineParts.{left_by, state_of};
 
 use crate::parts::Parts;
@@ -13,7 +13,7 @@ use layout_params::Descr;
 use sil_model::{Flow, place};
 
 /// `ISTACK`: the stack is empty.
-#[tactic(auto, unfolding(sil_model::specs::StackClauses::istack))]
+#[tactic(auto, unfolding(flow_clauses::specs::StackClauses::istack))]
 pub fn istack(site: &Site, parts: &mut Parts) -> Option<Flow>
     ensures { (k steps : ℕ) (tapes : Tapes) → istack site.now (state_of k steps parts.old tapes) ≡ left_by result (state_of k steps parts.new tapes) }
 {
@@ -24,7 +24,7 @@ pub fn istack(site: &Site, parts: &mut Parts) -> Option<Flow>
 }
 
 /// `PSTACK D`: D is the address of the cell below the top.
-#[tactic(auto, unfolding(sil_model::specs::StackClauses::pstack))]
+#[tactic(auto, unfolding(flow_clauses::specs::StackClauses::pstack))]
 pub fn pstack(site: &Site, parts: &mut Parts) -> Option<Flow>
     ensures { (k steps : ℕ) (tapes : Tapes) → pstack site.now (state_of k steps parts.old tapes) ≡ left_by result (state_of k steps parts.new tapes) }
 {
@@ -35,7 +35,7 @@ pub fn pstack(site: &Site, parts: &mut Parts) -> Option<Flow>
 }
 
 /// `PUSH DD`: the items go onto the stack in order, or to OVER where there is no room.
-#[tactic(auto, unfolding(sil_model::specs::StackClauses::push))]
+#[tactic(auto, unfolding(flow_clauses::specs::StackClauses::push))]
 pub fn push(site: &Site, parts: &mut Parts) -> Option<Flow>
     ensures { (k steps : ℕ) (tapes : Tapes) → push site.now (state_of k steps parts.old tapes) ≡ left_by result (state_of k steps parts.new tapes) }
 {
@@ -52,7 +52,7 @@ pub fn push(site: &Site, parts: &mut Parts) -> Option<Flow>
 }
 
 /// `POP DD`: the items come from the top down, or to INTR10 where the stack has too few.
-#[tactic(auto, unfolding(sil_model::specs::StackClauses::pop))]
+#[tactic(auto, unfolding(flow_clauses::specs::StackClauses::pop))]
 pub fn pop(site: &Site, parts: &mut Parts) -> Option<Flow>
     ensures { (k steps : ℕ) (tapes : Tapes) → pop site.now (state_of k steps parts.old tapes) ≡ left_by result (state_of k steps parts.new tapes) }
 {
@@ -69,7 +69,7 @@ pub fn pop(site: &Site, parts: &mut Parts) -> Option<Flow>
 }
 
 /// `SPUSH SS`: as PUSH with the two cells of each specifier.
-#[tactic(auto, unfolding(sil_model::specs::StackClauses::spush))]
+#[tactic(auto, unfolding(flow_clauses::specs::StackClauses::spush))]
 pub fn spush(site: &Site, parts: &mut Parts) -> Option<Flow>
     ensures { (k steps : ℕ) (tapes : Tapes) → spush site.now (state_of k steps parts.old tapes) ≡ left_by result (state_of k steps parts.new tapes) }
 {
@@ -86,7 +86,7 @@ pub fn spush(site: &Site, parts: &mut Parts) -> Option<Flow>
 }
 
 /// `SPOP SS`: as POP with the two cells of each specifier.
-#[tactic(auto, unfolding(sil_model::specs::StackClauses::spop))]
+#[tactic(auto, unfolding(flow_clauses::specs::StackClauses::spop))]
 pub fn spop(site: &Site, parts: &mut Parts) -> Option<Flow>
     ensures { (k steps : ℕ) (tapes : Tapes) → spop site.now (state_of k steps parts.old tapes) ≡ left_by result (state_of k steps parts.new tapes) }
 {

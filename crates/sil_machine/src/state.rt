@@ -2,12 +2,16 @@
 ghost use Rattle.std.specs.Prelude.{◌≡◌, ◌≢◌, ◌+◌, ◌-◌, ◌<◌, ◌≤◌, ◌^◌, ℕ, Err, false, true, IfNone, IfSome, None, Some, slice_get};
 ghost use Rattle.unit_io.specs.Tapes.{Tapes};
 ghost use Rattle.unit_io.specs.Units.{RoseAt, tapes_of};
-ghost use Rattle.sil_model.specs.Machine.{make_step, settle, step};
-ghost use Rattle.sil_model.specs.Table.{calls_unit};
+ghost use Rattle.sil_runs.specs.Machine.{make_step, step};
+ghost use Rattle.sil_model.specs.Settling.{settle};
+ghost use Rattle.sil_model.specs.Sites.{site_of};
+ghost use Rattle.sil_model.specs.UnitMacros.{calls_unit};
 ghost use Rattle.sil_model.specs.WellFormed.{IsWellFormed};
-ghost use Rattle.sil_machine.specs.Positions.{Makes, counted, ended_with_memory, left, state_at};
+ghost use Rattle.sil_machine.specs.Positions.{IsCutAt, Makes, counted, ended_with_memory, left, state_at};
 ghost use Rattle.sil_machine.specs.Outcomes.{IsAs, end_at, outcome_of};
 ghost use Rattle.sil_machine.specs.MachineParts.{answered, had_memory};
+ghost use Rattle.sil_machine.specs.KeptUnits.{KeepsUnits};
+ghost use Rattle.sil_machine.specs.UnitStatements.{IsCut};
 
 use crate::dispatch::perform;
 use crate::parts::{Parts, Stop};
@@ -15,6 +19,7 @@ use crate::site::Site;
 use layout_params::Params;
 use sil_base::MAX_STEPS;
 use sil_model::{End, Flow, Program, Statement};
+use std::alloc::Global;
 use unit_io::UnitSet;
 
 /// Where a machine is: the number of the next statement, the steps taken, and the parts that
@@ -57,6 +62,7 @@ fn finish(at: &mut Position, went: Result<Flow, Stop>) -> Result<(), End>
 
 /// The step of a position at this statement.
 fn make_step<U: UnitSet>(
+    alloc: Global,
     program: &Program,
     params: &Params,
     statement: &Statement,
@@ -70,11 +76,12 @@ fn make_step<U: UnitSet>(
     ensures steps { Makes (make_step program.now params.now statement.now (state_at at.old (tapes_of (U.seen units.old)))) result (state_at at.new (tapes_of (U.seen units.new))) }
     ensures counts { at.new.steps ≡ at.old.steps + 1 }
     ensures stays { calls_unit statement.now.name ≡ false → U.seen units.new ≡ U.seen units.old }
-    ensures cut { result ≡ Err End.Memory → tapes_of (U.seen units.new) ≡ tapes_of (U.seen units.old) }
+    ensures cut { result ≡ Err End.Memory → IsCut statement.now.name (site_of program.now params.now at.old.statement statement.now) at.old.parts.cells (tapes_of (U.seen units.old)) (tapes_of (U.seen units.new)) }
     ensures faults { (k unit : ℕ) → result ≡ Err (End.UnitFault k unit) → RoseAt unit (U.seen units.old) (U.seen units.new) }
+    ensures kept { KeepsUnits (U.seen units.old) (U.seen units.new) }
 {
     let site = Site::of(program, params, at.statement, statement);
-    let went = perform(statement.name, &site, at.steps, &mut at.parts, units);
+    let went = perform(alloc, statement.name, &site, at.steps, &mut at.parts, units);
     finish(at, went)
 }
 
@@ -87,7 +94,9 @@ fn statement_at(program: &Program, k: u32) -> Option<&Statement>
 }
 
 /// One step. Past the last statement it is undefined, and no step is counted.
+#[tactic(auto, using(crate::proofs::KeptUnits::kept_units))]
 pub fn step<U: UnitSet>(
+    alloc: Global,
     program: &Program,
     params: &Params,
     at: &mut Position,
@@ -98,12 +107,13 @@ pub fn step<U: UnitSet>(
     ensures steps { Makes (step program.now params.now (state_at at.old (tapes_of (U.seen units.old)))) result (state_at at.new (tapes_of (U.seen units.new))) }
     ensures counts { at.new.steps ≡ counted program.now at.old }
     ensures one_more { at.new.steps ≤ at.old.steps + 1 }
-    ensures cut { result ≡ Err End.Memory → tapes_of (U.seen units.new) ≡ tapes_of (U.seen units.old) }
+    ensures cut { result ≡ Err End.Memory → IsCutAt program.now params.now at.old (tapes_of (U.seen units.old)) (tapes_of (U.seen units.new)) }
     ensures faults { (k unit : ℕ) → result ≡ Err (End.UnitFault k unit) → RoseAt unit (U.seen units.old) (U.seen units.new) }
+    ensures kept { KeepsUnits (U.seen units.old) (U.seen units.new) }
 {
     match statement_at(program, at.statement) {
         None => Err(End::Undefined(at.statement)),
-        Some(statement) => make_step(program, params, statement, at, units),
+        Some(statement) => make_step(alloc, program, params, statement, at, units),
     }
 }
 
@@ -120,6 +130,7 @@ fn end_at(program: &Program, k: u32) -> End
 
 /// A run of at most n steps.
 pub fn run<U: UnitSet>(
+    alloc: Global,
     program: &Program,
     params: &Params,
     at: &mut Position,
@@ -128,10 +139,12 @@ pub fn run<U: UnitSet>(
 ) -> End
     requires well_formed { IsWellFormed program.now params.now.settings }
     requires steps { at.old.steps + n ≤ MAX_STEPS }
-    ensures { result ≢ End.Memory → IsAs (record { end = Some result; tapes = tapes_of (U.seen units.new) }) (outcome_of program.now params.now n (state_at at.old (tapes_of (U.seen units.old)))) }
+    ensures ends { result ≢ End.Memory → IsAs (record { end = Some result; tapes = tapes_of (U.seen units.new) }) (outcome_of program.now params.now n (state_at at.old (tapes_of (U.seen units.old)))) }
+    ensures faults { (k unit : ℕ) → result ≡ End.UnitFault k unit → RoseAt unit (U.seen units.old) (U.seen units.new) }
+    ensures kept { KeepsUnits (U.seen units.old) (U.seen units.new) }
 {
     for i in 0..n {
-        match step(program, params, at, units) {
+        match step(alloc, program, params, at, units) {
             Ok(()) => {}
             Err(end) => return end,
         }

@@ -2,7 +2,7 @@
 ghost use Rattle.std.specs.Prelude.{◌≡◌, ◌≤◌, ℕ};
 ghost use Rattle.unit_io.specs.Tapes.{Tapes};
 ghost use Rattle.sil_model.specs.Effects.{after_flow};
-ghost use Rattle.sil_model.specs.FlowClauses.{init, mstime};
+ghost use Rattle.flow_clauses.specs.FlowClauses.{init, mstime};
 ghost use Rattle.sil_machine.specs.MachineParts.{left_by, state_of};
 
 use crate::parts::Parts;
@@ -13,7 +13,7 @@ use sil_model::{Cells, Flow, place, set_a_field};
 
 /// `INIT`: FRSGPT.A and HDSGPT.A are the first dynamic cell, TLSGP1.A is the address after the
 /// last one.
-#[tactic(auto, unfolding(sil_model::specs::FlowClauses::init))]
+#[tactic(auto, unfolding(flow_clauses::specs::FlowClauses::init))]
 pub fn init(site: &Site, cells: &mut Cells) -> Option<Flow>
     ensures { init site.now cells.old ≡ after_flow result cells.new }
 {
@@ -28,7 +28,7 @@ pub fn init(site: &Site, cells: &mut Cells) -> Option<Flow>
 }
 
 /// `MSTIME D`: D is the number of the steps taken before this one.
-#[tactic(auto, unfolding(sil_model::specs::FlowClauses::mstime))]
+#[tactic(auto, unfolding(flow_clauses::specs::FlowClauses::mstime))]
 pub fn mstime(site: &Site, steps: u64, parts: &mut Parts) -> Option<Flow>
     requires { steps ≤ MAX_STEPS }
     ensures { (k : ℕ) (tapes : Tapes) → mstime site.now (state_of k steps parts.old tapes) ≡ left_by result (state_of k steps parts.new tapes) }

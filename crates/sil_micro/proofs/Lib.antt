@@ -1,5 +1,6 @@
 pub mod Registers
 pub mod Moved
+pub mod SetChars
 pub mod Leading
 pub mod Ways
 pub mod Meetings

@@ -4,6 +4,7 @@ use Rattle.std.specs.Prelude.{ℤ, pos, negsuc, slice_get, nat_lt, nat_le}
 use Rattle.std.proofs.lemmas.Bool.Decides.{nat_tests}
 use Rattle.unit_io.specs.Tapes.{TapeState}
 use Rattle.unit_io.specs.Numbered.{unit_at}
+use Rattle.unit_calls.specs.CallsMade.{Made, read}
 use Rattle.sil_model.specs.declared.table.Table.{Table}
 use Rattle.sil_model.specs.Access.{field_at, set_field_at, set_whole_at, char_at, set_char_at}
 use Rattle.sil_model.specs.CellWords.{kind_at, set_kind_at, word_at, set_word_at}
@@ -14,14 +15,18 @@ use Rattle.sil_micro.specs.declared.op.Target.TheVariants.{Op as Place, Statemen
 use Rattle.sil_micro.specs.declared.op.Area.{Area}
 use Rattle.sil_micro.specs.declared.op.Area.TheVariants as areas
 use Rattle.sil_micro.specs.declared.op.Op.{Op}
+use Rattle.sil_micro.specs.declared.op.Text.{Text}
+use Rattle.sil_micro.specs.declared.op.Text.TheVariants as texts
+use Rattle.sil_micro.specs.declared.op.Values.{Values}
 use Rattle.sil_micro.specs.declared.op.Op.TheVariants.{Const, Copy, Arith, Jump, JumpIf, JumpEntry, JumpReturn, LoadField, StoreField, StoreCell, LoadChar, StoreChar, LoadWord, StoreWord, UnitCall, Begin, End as EndBy}
 use Rattle.sil_micro.specs.Forms.{is_op, all_ops}
-use Rattle.sil_micro.specs.Operations.{Effect, On, To, ToReturn, Over, Stuck, load, load_char, load_table, load_word, store, store_state, store_scratch, store_tables, store_word, state_word, set_state_word, scratch_word, set_scratch, jump_if, entered_statement, jump_entry, begin_if, unit_fault, end_by, call_on, call_if, perform}
+use Rattle.sil_model.specs.Entries.{entered_statement}
+use Rattle.sil_micro.specs.Operations.{Effect, On, To, ToReturn, Over, Stuck, load, load_char, load_table, load_word, store, store_state, store_scratch, store_tables, store_word, state_word, set_state_word, scratch_word, set_scratch, jump_if, jump_entry, begin_if, unit_fault, end_by, read_answered, read_into, told_call, call_on, call_if, unit_held, perform}
 use Rattle.sil_micro.specs.Pieces.{placed_target, placed_op, target_within, op_within, fits_part, is_part}
 use Rattle.sil_micro.specs.MicroStates.{Setting, Micro, held}
 use Rattle.sil_micro.specs.TableWords.{table_word, set_table_word}
-use Rattle.sil_micro.specs.UnitCalls.{can_call}
-use Rattle.sil_micro.specs.MicroWords.{holds, low_byte, unsigned}
+use Rattle.sil_micro.specs.UnitCalls.{can_call, chars_read, set_chars_from}
+use Rattle.sil_micro.specs.MicroWords.{holds, low_byte}
 
 pub and_first : (a b : Bool) → (a && b) ≡ true → a ≡ true
 and_first true b h = refl
@@ -114,13 +119,33 @@ module _ (base size : ℕ) where
   plain_end (pos (suc (suc (suc (suc (suc (suc n))))))) u = record { same = refl; stays = tt }
   plain_end (negsuc n) u = record { same = refl; stays = tt }
 
-  plain_on : (o : Option (Option TapeState)) (to : ℕ) (u : Micro) → Plain (call_on o to u)
-  plain_on None to u = record { same = refl; stays = tt }
-  plain_on (Some unit) to u = record { same = refl; stays = tt }
+  plain_read : (o : Option Memory) (unit to : ℕ) (u : Micro) (made : Made) → Plain (read_answered o unit to u made)
+  plain_read None unit to u made = record { same = refl; stays = tt }
+  plain_read (Some m) unit to u made = record { same = refl; stays = tt }
 
-  plain_call : (b : Bool) (unit : ℤ) (to : ℕ) (u : Micro) → Plain (call_if b unit to u)
-  plain_call false unit to u = record { same = refl; stays = tt }
-  plain_call true unit to u = plain_on (unit_at u.state.tapes (unsigned unit)) to u
+  plain_into : (text : Text) (unit to : ℕ) (u : Micro) (t : TapeState) → Plain (read_into text unit to u t)
+  plain_into texts.None unit to u t = record { same = refl; stays = tt }
+  plain_into (texts.Format i) unit to u t = record { same = refl; stays = tt }
+  plain_into (texts.Chars at len) unit to u t = plain_read (set_chars_from u.state.memory (held u.registers at) (chars_read u at len t)) unit to u (read t)
+
+  plain_told : (g : Setting) (call : ℕ) (text : Text) (values : Values) (unit to : ℕ) (u : Micro) (t : TapeState) → Plain (told_call g call text values unit to u t)
+  plain_told g zero text values unit to u t = record { same = refl; stays = tt }
+  plain_told g (suc zero) text values unit to u t = record { same = refl; stays = tt }
+  plain_told g (suc (suc zero)) text values unit to u t = plain_into text unit to u t
+  plain_told g (suc (suc (suc zero))) text values unit to u t = record { same = refl; stays = tt }
+  plain_told g (suc (suc (suc (suc zero)))) text values unit to u t = record { same = refl; stays = tt }
+  plain_told g (suc (suc (suc (suc (suc zero))))) text values unit to u t = record { same = refl; stays = tt }
+  plain_told g (suc (suc (suc (suc (suc (suc zero)))))) text values unit to u t = record { same = refl; stays = tt }
+  plain_told g (suc (suc (suc (suc (suc (suc (suc n))))))) text values unit to u t = record { same = refl; stays = tt }
+
+  plain_on : (o : Option (Option TapeState)) (to : ℕ) (u : Micro) (call : TapeState → Effect) → ((t : TapeState) → Plain (call t)) → Plain (call_on o to u call)
+  plain_on None to u call told = record { same = refl; stays = tt }
+  plain_on (Some None) to u call told = record { same = refl; stays = tt }
+  plain_on (Some (Some t)) to u call told = told t
+
+  plain_call : (b : Bool) (unit to : ℕ) (u : Micro) (call : TapeState → Effect) → ((t : TapeState) → Plain (call t)) → Plain (call_if b unit to u call)
+  plain_call false unit to u call told = record { same = refl; stays = tt }
+  plain_call true unit to u call told = plain_on (unit_at u.state.tapes unit) to u call told
 
   abbrev pay : ℕ → Micro → Micro
   pay w u = record u { spent = u.spent + w }
@@ -162,7 +187,9 @@ module _ (base size : ℕ) where
   performs g (LoadWord area to at) u h = from_plain g (LoadWord area to at) u refl (plain_load_word area (held u.registers at) to (pay 28 u))
   performs g (StoreWord area at from) u h = from_plain g (StoreWord area at from) u refl (plain_store_word area (held u.registers at) (held u.registers from) (pay 28 u))
   performs g (UnitCall call unit to text values) u h =
-      from_plain g (UnitCall call unit to text values) u refl (plain_call (can_call g (pay 28 u) call text values) (held u.registers unit) to (pay 28 u))
+      let after = pay 28 u in
+      let n = unit_held after unit in
+      from_plain g (UnitCall call unit to text values) u refl (plain_call (can_call g after call text values) n to after (told_call g call text values n to after) (λ t. plain_told g call text values n to after t))
   performs g (Begin k) u h = from_plain g (Begin k) u refl (plain_begin (nat_lt u.state.steps g.bound) k (pay 28 u))
   performs g (EndBy by) u h = from_plain g (EndBy by) u refl (plain_end (held u.registers by) (pay 28 u))
 

@@ -5,10 +5,10 @@ use Rattle.layout_params.specs.Parameters.{Parameters}
 use Rattle.sil_model.specs.declared.program.Arg.{Arg}
 use Rattle.sil_model.specs.declared.program.Program.{Program}
 use Rattle.sil_model.specs.declared.program.Specials.{Specials}
-use Rattle.sil_model.specs.Costs.{operand_count}
+use Rattle.sil_model.specs.OperandCounts.{operand_count}
 use Rattle.sil_model.specs.Effects.{Effect}
 use Rattle.sil_model.specs.Fits.{bounds_of, IsWithin}
-use Rattle.sil_model.specs.Machine.{settle}
+use Rattle.sil_model.specs.Settling.{settle}
 use Rattle.sil_model.specs.Sites.{Site}
 use Rattle.sil_model.specs.States.{State, Step, Goes, Ends}
 use Rattle.sil_model.specs.Valid.{IsValid}

@@ -9,7 +9,8 @@ use Rattle.sil_micro.specs.declared.op.Op.{Op}
 use Rattle.sil_micro.specs.declared.op.Op.TheVariants.{Begin}
 use Rattle.sil_micro.specs.declared.op.Target.TheVariants.{Op as Place, Statement}
 use Rattle.sil_micro.specs.Codes.{MicroCode, place_of, return_of}
-use Rattle.sil_micro.specs.Operations.{Effect, On, To, ToReturn, Over, Stuck, entered_statement, perform}
+use Rattle.sil_model.specs.Entries.{entered_statement}
+use Rattle.sil_micro.specs.Operations.{Effect, On, To, ToReturn, Over, Stuck, perform}
 use Rattle.sil_micro.specs.MicroStates.{Setting, Micro, first_micro}
 
 -- how a run stands: at the operation of a number; ended, with no end where it came to a call on a unit that doesn't tell its tape; or stuck

@@ -1,15 +1,17 @@
 -- What the operations do: a clause each.
-use Rattle.std.specs.Prelude.{ℕ, zero, suc, ◌+◌, ◌-◌, ◌*◌, ◌/◌, ◌%◌, List, length, Option, Some, None, Bool, true, false, ℤ, pos, negsuc, ◌&&◌, ◌==◌, nat_eq, nat_le, nat_lt, if◌then◌else◌}
+use Rattle.std.specs.Prelude.{ℕ, zero, suc, ◌+◌, ◌-◌, ◌*◌, List, length, Option, Some, None, Bool, true, false, ℤ, pos, negsuc, nat_eq, nat_lt, if◌then◌else◌}
 use Rattle.sil_base.specs.Bytes.{number}
-use Rattle.sil_base.specs.declared.places.TheConstants.{FIRST_CELL, FIRST_ENTRY}
-use Rattle.unit_io.specs.Tapes.{TapeState}
+use Rattle.sil_base.specs.declared.places.TheConstants.{FIRST_CELL}
+use Rattle.unit_io.specs.Tapes.{TapeState, rewound, backspaced, ended, with_tape}
 use Rattle.unit_io.specs.Numbered.{unit_at}
+use Rattle.unit_calls.specs.CallsMade.{Made, absent, moved, print_on, read, unit_number}
 use Rattle.layout_params.specs.Areas.{hidden_cells}
 use Rattle.sil_model.specs.declared.end.End.{End}
 use Rattle.sil_model.specs.declared.end.End.TheVariants as ends
 use Rattle.sil_model.specs.declared.table.Table.{Table}
 use Rattle.sil_model.specs.Access.{field_at, set_field_at, set_whole_at, char_at, set_char_at}
 use Rattle.sil_model.specs.CellWords.{kind_at, set_kind_at, word_at, set_word_at}
+use Rattle.sil_model.specs.Entries.{entered_statement}
 use Rattle.sil_model.specs.Memory.{Memory}
 use Rattle.sil_model.specs.States.{State}
 use Rattle.sil_micro.specs.declared.op.Fixed.{Fixed}
@@ -19,11 +21,14 @@ use Rattle.sil_micro.specs.declared.op.Area.TheVariants as areas
 use Rattle.sil_micro.specs.declared.op.Target.{Target}
 use Rattle.sil_micro.specs.declared.op.Target.TheVariants as targets
 use Rattle.sil_micro.specs.declared.op.Op.{Op}
+use Rattle.sil_micro.specs.declared.op.Text.{Text}
+use Rattle.sil_micro.specs.declared.op.Text.TheVariants as texts
+use Rattle.sil_micro.specs.declared.op.Values.{Values}
 use Rattle.sil_micro.specs.declared.op.Op.TheVariants.{Const, Copy, Arith, Jump, JumpIf, JumpEntry, JumpReturn, LoadField, StoreField, StoreCell, LoadChar, StoreChar, LoadWord, StoreWord, UnitCall, Begin, End as EndBy}
 use Rattle.sil_micro.specs.MicroStates.{Setting, Micro, held, put}
 use Rattle.sil_micro.specs.MicroWords.{computed, holds, same_integer, low_byte, unsigned}
 use Rattle.sil_micro.specs.TableWords.{table_word, set_table_word}
-use Rattle.sil_micro.specs.UnitCalls.{can_call, absent}
+use Rattle.sil_micro.specs.UnitCalls.{can_call, chars_read, set_chars_from, text_of, values_of}
 
 -- what an operation does: it goes on to the next; jumps; goes to the return part of the call whose entry this is; ends the run, with no end where it calls a unit that doesn't tell its tape; or is stuck
 pub data Effect : Type 0 where
@@ -144,12 +149,6 @@ abbrev pub jump_if : Bool → Target → Micro → Effect
 jump_if true to u = To to u
 jump_if false to u = On u
 
--- the statement, of so many, whose entry a number is
-unfoldable pub entered_statement : ℕ → ℕ → ℤ → Option ℕ
-entered_statement size count (negsuc n) = None
-entered_statement size count (pos n) =
-    if nat_le FIRST_ENTRY n && ((n - FIRST_ENTRY) % size == 0) && nat_lt ((n - FIRST_ENTRY) / size) count then Some ((n - FIRST_ENTRY) / size) else None
-
 abbrev pub jump_entry : Option ℕ → Micro → Effect
 jump_entry None u = undefined u
 jump_entry (Some k) u = To (targets.Statement k) u
@@ -173,14 +172,47 @@ end_by (pos (suc (suc (suc (suc zero))))) u = ends_by ends.Budget u
 end_by (pos (suc (suc (suc (suc (suc zero)))))) u = unit_fault u.failed u
 end_by _ u = Stuck
 
--- a call on what has the unit's number: an absent unit gives its answer, and no call on it fails; of attached units nothing is told yet
-abbrev pub call_on : Option (Option TapeState) → ℕ → Micro → Effect
-call_on None to u = On (record u { registers = put to (pos absent) u.registers; failed = None })
-call_on (Some unit) to u = Over None u
+-- the unit of a call, where it failed
+abbrev pub failed_unit : Bool → ℕ → Option ℕ
+failed_unit false unit = None
+failed_unit true unit = Some unit
 
-abbrev pub call_if : Bool → ℤ → ℕ → Micro → Effect
-call_if false unit to u = Stuck
-call_if true unit to u = call_on (unit_at u.state.tapes (unsigned unit)) to u
+-- a call on a unit was made, and its answer goes to a register
+abbrev pub answered : ℕ → ℕ → Micro → Made → Effect
+answered unit to u made = On (record u { state = record u.state { tapes = with_tape u.state.tapes unit made.tape }; registers = put to (pos made.answer) u.registers; failed = failed_unit made.failed unit })
+
+-- a read was made, which leaves this memory: there is one, since the call can be made only where there are characters
+abbrev pub read_answered : Option Memory → ℕ → ℕ → Micro → Made → Effect
+read_answered None unit to u made = Stuck
+read_answered (Some m) unit to u made = answered unit to (record u { state = record u.state { memory = m } }) made
+
+-- a read goes into the characters of its text
+abbrev pub read_into : Text → ℕ → ℕ → Micro → TapeState → Effect
+read_into (texts.Chars at len) unit to u t = read_answered (set_chars_from u.state.memory (held u.registers at) (chars_read u at len t)) unit to u (read t)
+read_into _ unit to u t = Stuck
+
+-- a call on a unit that tells its tape
+abbrev pub told_call : Setting → ℕ → Text → Values → ℕ → ℕ → Micro → TapeState → Effect
+told_call g (suc (suc zero)) text values unit to u t = read_into text unit to u t
+told_call g (suc (suc (suc zero))) text values unit to u t = answered unit to u (print_on (text_of g u text) (values_of u values) t)
+told_call g (suc (suc (suc (suc zero)))) text values unit to u t = answered unit to u (moved rewound t)
+told_call g (suc (suc (suc (suc (suc zero))))) text values unit to u t = answered unit to u (moved backspaced t)
+told_call g (suc (suc (suc (suc (suc (suc zero)))))) text values unit to u t = answered unit to u (moved ended t)
+told_call g _ text values unit to u t = Stuck
+
+-- a call on what has the unit's number: an absent unit gives its answer, and no call on it fails
+abbrev pub call_on : Option (Option TapeState) → ℕ → Micro → (TapeState → Effect) → Effect
+call_on None to u call = On (record u { registers = put to (pos absent) u.registers; failed = None })
+call_on (Some None) to u call = Over None u
+call_on (Some (Some t)) to u call = call t
+
+abbrev pub call_if : Bool → ℕ → ℕ → Micro → (TapeState → Effect) → Effect
+call_if false unit to u call = Stuck
+call_if true unit to u call = call_on (unit_at u.state.tapes unit) to u call
+
+-- the number of the unit that a register says
+abbrev pub unit_held : Micro → ℕ → ℕ
+unit_held u unit = unit_number (unsigned (held u.registers unit))
 
 -- ---- all operations
 
@@ -199,7 +231,7 @@ act g (LoadChar to at) u = load_char (char_at u.state.memory (held u.registers a
 act g (StoreChar at from) u = store (set_char_at u.state.memory (held u.registers at) (low_byte (held u.registers from))) u
 act g (LoadWord area to at) u = load_word area (held u.registers at) to u
 act g (StoreWord area at from) u = store_word area (held u.registers at) (held u.registers from) u
-act g (UnitCall call unit to text values) u = call_if (can_call g u call text values) (held u.registers unit) to u
+act g (UnitCall call unit to text values) u = call_if (can_call g u call text values) (unit_held u unit) to u (told_call g call text values (unit_held u unit) to u)
 act g (Begin k) u = begin_if (nat_lt u.state.steps g.bound) k u
 act g (EndBy by) u = end_by (held u.registers by) u
 

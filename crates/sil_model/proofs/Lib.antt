@@ -7,14 +7,6 @@ pub mod ReadingChars
 pub mod AccessProofs
 pub mod Leaves
 pub mod Operands
-pub mod Tops
 pub mod Lists
 pub mod TapesKept
 pub mod Lawful
-pub mod FlowLaws
-pub mod StackLaws
-pub mod CallLaws
-pub mod ClauseLaws
-pub mod Runs
-pub mod Steady
-pub mod Alone

@@ -1,24 +1,20 @@
 -- Operands within their bounds lead to statements and fit; so do the results of arithmetic.
-use Rattle.std.proofs.Common.{◌≡◌, ℕ, ◌≤◌, Bool, true, false, List, Option, Some, None, ℤ, pos, negsuc, zero, suc, [], ◌∷◌, length, refl, subst, arith, rules}
+use Rattle.std.proofs.Common.{◌≡◌, ℕ, ◌≤◌, List, Option, Some, None, ℤ, pos, negsuc, zero, suc, [], ◌∷◌, length, refl, subst, arith, rules}
 use Rattle.std.proofs.Math.Facts.{sfits_to_z}
-use Rattle.std.specs.Prelude.{All, FitsSigned, cond, int_lt, slice_get, int_div, ◌==◌, bit_and}
+use Rattle.std.specs.Prelude.{All, FitsSigned, slice_get}
 use Rattle.std.specs.Int.{w64}
 use Rattle.std.proofs.lemmas.Option.{same_Some}
 use Rattle.layout_params.specs.declared.cell.Descr.{Descr as Descriptor}
 use Rattle.sil_model.specs.declared.program.Arg.{Arg}
 use Rattle.sil_model.specs.declared.program.Arg.TheVariants.{Absent, Place, Number, Flag, Goto, Table, Key, Format, Places, Gotos}
 use Rattle.sil_model.specs.declared.program.Flow.{Flow}
-use Rattle.sil_model.specs.Access.{◌>>=◌, descr_at, a_at, v_at}
+use Rattle.sil_model.specs.Access.{◌>>=◌, descr_at, a_at, v_at, integer_alone}
 use Rattle.sil_model.specs.Arguments.{as_number, as_goto, as_gotos, as_places, as_maybe_places, at_place, flow_to, number_at, goto_at, gotos_at, places_at, maybe_places_at, nth_location}
-use Rattle.sil_model.specs.ComparisonClauses.{by_order, by_sameness, by_flags}
-use Rattle.sil_model.specs.Costs.{item_count, listed, operand_count}
-use Rattle.sil_model.specs.DescriptorClauses.{integer_alone}
-use Rattle.sil_model.specs.Effects.{leads}
+use Rattle.sil_model.specs.OperandCounts.{item_count, listed, operand_count}
 use Rattle.sil_model.specs.Fits.{Bounds, IsStatement, IsWithin}
 use Rattle.sil_model.specs.Integers.{◌⊟◌, wrapped_difference, wrapped_product, in_range}
-use Rattle.sil_model.specs.IntegerClauses.{deliver, quotient}
 use Rattle.sil_model.specs.Memory.{Memory, IsMemory, FitsDescr}
-use Rattle.sil_model.proofs.Keeps.{Keeps, LeadsWithin, Writes, all_at, fits_descr_at, keeps_here, writes_set_descr}
+use Rattle.sil_model.proofs.Keeps.{LeadsWithin, all_at, fits_descr_at}
 
 -- ---- locations and numbers
 
@@ -124,21 +120,6 @@ maybe_items_most [] i = omega arith
 maybe_items_most (arg ∷ args) zero = omega (arith, maybe_items_of arg)
 maybe_items_most (arg ∷ args) (suc i) = omega (arith, maybe_items_most args i)
 
-chosen_leads : (last : ℕ) (c : Bool) (x y : Flow) → LeadsWithin last x → LeadsWithin last y → LeadsWithin last (cond c x y)
-chosen_leads last true x y h k = h
-chosen_leads last false x y h k = k
-
-pub order_leads : (last : ℕ) (x y : ℤ) (greater equal less : Flow) → LeadsWithin last greater → LeadsWithin last equal → LeadsWithin last less → LeadsWithin last (by_order x y greater equal less)
-order_leads last x y greater equal less g e l = chosen_leads last (int_lt y x) greater _ g (chosen_leads last (int_lt x y) less equal l e)
-
-pub sameness_leads : (last : ℕ) (x y : Descriptor) (unequal equal : Flow) → LeadsWithin last unequal → LeadsWithin last equal → LeadsWithin last (by_sameness x y unequal equal)
-sameness_leads last x y unequal equal u e =
-    order_leads last x.a y.a unequal _ unequal u
-    (order_leads last (pos x.f) (pos y.f) unequal _ unequal u (order_leads last (pos x.v) (pos y.v) unequal equal unequal u e u) u) u
-
-pub flags_lead : (last f flags : ℕ) (lacking having : Flow) → LeadsWithin last lacking → LeadsWithin last having → LeadsWithin last (by_flags f flags lacking having)
-flags_lead last f flags lacking having l h = chosen_leads last (bit_and f flags == flags) having lacking h l
-
 -- ---- fields and results
 
 fits_a_of : (m : Memory) (at a : ℤ) (o : Option Descriptor) → IsMemory m → descr_at m at ≡ o → (o >>= (λ d. Some d.a)) ≡ Some a → FitsSigned w64 a
@@ -172,18 +153,3 @@ pub range_fits : (z a : ℤ) → in_range z ≡ Some a → FitsSigned w64 a
 unfolding in_range
 range_fits (pos n) a is = grind (arith, is)
 range_fits (negsuc n) a is = grind (arith, is)
-
-pub quotient_fits : (x y a : ℤ) → quotient x y ≡ Some a → FitsSigned w64 a
-quotient_fits x (pos zero) a is = cc
-quotient_fits x (pos (suc n)) a is = range_fits (int_div x (pos (suc n))) a is
-quotient_fits x (negsuc n) a is = range_fits (int_div x (negsuc n)) a is
-
-keeps_leads : (last : ℕ) (m : Memory) (flow : Flow) (o : Option Memory) → LeadsWithin last flow → Writes m o → Keeps last m (leads flow o)
-unfolding Keeps Writes
-keeps_leads last m flow None l h = tt
-keeps_leads last m flow (Some m') l h = (l, h)
-
-pub keeps_deliver : (last : ℕ) (m : Memory) (d1 : ℤ) (d : Descriptor) (o : Option ℤ) (failure success : Flow) → IsMemory m → LeadsWithin last failure → LeadsWithin last success → FitsDescr m.limits d →
-    ((a : ℤ) → o ≡ Some a → FitsSigned w64 a) → Keeps last m (deliver m d1 d o failure success)
-keeps_deliver last m d1 d None failure success h f s fits range = keeps_here last m failure f h
-keeps_deliver last m d1 d (Some a) failure success h f s fits range = keeps_leads last m success _ s (writes_set_descr m d1 (record d { a = a }) h (range a refl, fits.1, fits.2))

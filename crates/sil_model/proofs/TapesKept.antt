@@ -1,13 +1,12 @@
 -- Effects that are told and keep the tapes.
-use Rattle.std.proofs.Common.{◌≡◌, ℕ, Option, Some, None, refl}
+use Rattle.std.proofs.Common.{◌≡◌, Option, Some, None, refl}
 use Rattle.std.specs.Prelude.{Bool, true, false, if◌then◌else◌}
 use Rattle.unit_io.specs.Tapes.{Tapes}
 use Rattle.sil_model.specs.declared.program.Flow.{Flow}
 use Rattle.sil_model.specs.Access.{◌>>=◌}
 use Rattle.sil_model.specs.Effects.{MemoryEffect, Effect, goes, with_memory}
-use Rattle.sil_model.specs.StackClauses.{to_special}
 use Rattle.sil_model.specs.States.{State}
-use Rattle.sil_model.specs.UnitLaws.{KeepsTapes}
+use Rattle.sil_model.specs.UnitMacros.{KeepsTapes}
 
 pub tapes_read : {A : Type 0} (tapes : Tapes) (o : Option A) (f : A → Effect) → ((a : A) → KeepsTapes tapes (f a)) → KeepsTapes tapes (o >>= f)
 unfolding KeepsTapes
@@ -25,11 +24,6 @@ tapes_go tapes flow t e = e
 pub tapes_none : (tapes : Tapes) → KeepsTapes tapes None
 unfolding KeepsTapes
 tapes_none tapes = tt
-
-pub tapes_special : (o : Option ℕ) (s : State) → KeepsTapes s.tapes (to_special o s)
-unfolding KeepsTapes
-tapes_special None s = tt
-tapes_special (Some k) s = refl
 
 pub tapes_memory : (s : State) (o : MemoryEffect) → KeepsTapes s.tapes (with_memory s o)
 unfolding KeepsTapes

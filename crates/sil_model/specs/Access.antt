@@ -80,6 +80,10 @@ set_whole_at m at a flags value = do
   v ← within m.limits.value_limit value
   set_descr_at m at (record { a = a; f = f; v = v })
 
+-- an integer, with 0 as F and V
+abbrev pub integer_alone : ℤ → Descriptor
+integer_alone a = record { a = a; f = 0; v = 0 }
+
 -- ---- fields, which are those of a descriptor alone; a write keeps the other two
 
 abbrev pub a_at : Memory → ℤ → Option ℤ

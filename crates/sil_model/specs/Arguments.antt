@@ -1,7 +1,7 @@
 -- The operands of a statement.
 use Rattle.std.specs.Prelude.{ℕ, suc, List, [], Option, Some, None, ℤ, pos, slice_get}
 use Rattle.sil_model.specs.declared.program.Arg.{Arg}
-use Rattle.sil_model.specs.declared.program.Arg.TheVariants.{Absent, Place, Number, Flag, Goto, Places, Gotos}
+use Rattle.sil_model.specs.declared.program.Arg.TheVariants.{Absent, Place, Number, Flag, Format, Goto, Places, Gotos}
 use Rattle.sil_model.specs.declared.program.Flow.{Flow}
 use Rattle.sil_model.specs.declared.program.Flow.TheVariants.{Next, To}
 use Rattle.sil_model.specs.Access.{◌>>=◌}
@@ -26,6 +26,11 @@ flow_to (Some k) = To k
 abbrev pub as_goto : Arg → Option Flow
 as_goto (Goto location) = Some (flow_to location)
 as_goto _ = None
+
+-- the text of a format
+abbrev pub as_format : Arg → Option (List ℕ)
+as_format (Format text) = Some text
+as_format _ = None
 
 abbrev pub as_places : Arg → Option (List ℤ)
 as_places (Places ats) = Some ats
@@ -71,6 +76,11 @@ abbrev pub goto_at : List Arg → ℕ → Option Flow
 goto_at args i = do
   arg ← slice_get args i
   as_goto arg
+
+abbrev pub format_at : List Arg → ℕ → Option (List ℕ)
+format_at args i = do
+  arg ← slice_get args i
+  as_format arg
 
 abbrev pub places_at : List Arg → ℕ → Option (List ℤ)
 places_at args i = do

@@ -2,7 +2,7 @@
 use Rattle.std.specs.Prelude.{ℕ, zero, suc, List, [], ◌∷◌, Option, Some, ℤ}
 use Rattle.layout_params.specs.declared.cell.Descr.{Descr as Descriptor}
 use Rattle.sil_model.specs.declared.specifier.Specifier.{Specifier}
-use Rattle.sil_model.specs.Access.{◌>>=◌, descr_at, set_descr_at}
+use Rattle.sil_model.specs.Access.{◌>>=◌, a_at, descr_at, set_descr_at}
 use Rattle.sil_model.specs.Integers.{◌⊞◌}
 use Rattle.sil_model.specs.Memory.{Memory}
 use Rattle.sil_model.specs.Specifiers.{spec_at, set_spec_at}
@@ -14,6 +14,14 @@ all_read m (at ∷ ats) = do
   d ← descr_at m at
   ds ← all_read m ats
   Some (d ∷ ds)
+
+-- the A fields at these addresses
+unfoldable pub all_a_read : Memory → List ℤ → Option (List ℤ)
+all_a_read m [] = Some []
+all_a_read m (at ∷ ats) = do
+  a ← a_at m at
+  numbers ← all_a_read m ats
+  Some (a ∷ numbers)
 
 -- the memory after the descriptors are written at as many addresses, in order
 unfoldable pub all_written : Memory → List ℤ → List Descriptor → Option Memory

@@ -1,7 +1,7 @@
 // Operands of statements, as what they are.
 ghost use Rattle.std.specs.Prelude.{◌≡◌};
 ghost use Rattle.std.specs.Option.{option_copied};
-ghost use Rattle.sil_model.specs.Arguments.{place_at, number_at, flag_at, goto_at, places_at, gotos_at, maybe_place_at, maybe_number_at, maybe_places_at};
+ghost use Rattle.sil_model.specs.Arguments.{place_at, number_at, flag_at, format_at, goto_at, places_at, gotos_at, maybe_place_at, maybe_number_at, maybe_places_at};
 
 use crate::program::{Arg, Flow};
 
@@ -31,6 +31,16 @@ pub fn flag(args: &[Arg], i: usize) -> Option<u32>
 {
     match args.get(i)? {
         Arg::Flag(flags) => Some(*flags),
+        _ => None,
+    }
+}
+
+/// The text of the format that the operand of a number is.
+pub fn format_text(args: &[Arg], i: usize) -> Option<&[u8]>
+    ensures { option_copied result ≡ format_at args.now i }
+{
+    match args.get(i)? {
+        Arg::Format(text) => Some(text.bytes()),
         _ => None,
     }
 }

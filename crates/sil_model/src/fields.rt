@@ -1,6 +1,6 @@
 // Fields as macros read and write them.
 ghost use Rattle.std.specs.Prelude.{◌≡◌, ◌<◌, ◌≤◌, ◌^◌, IfNone, IfSome, pos};
-ghost use Rattle.sil_model.specs.Access.{a_at, f_at, v_at, set_a_at, set_f_at, set_v_at, written};
+ghost use Rattle.sil_model.specs.Access.{a_at, f_at, v_at, integer_alone, set_a_at, set_descr_at, set_f_at, set_v_at, written};
 ghost use Rattle.sil_model.specs.Integers.{within};
 ghost use Rattle.sil_model.specs.Memory.{SameShape};
 
@@ -54,6 +54,13 @@ pub fn set_v_field(cells: &mut Cells, at: i64, value: i128) -> Option<()>
     let Descr { a, f, .. } = cells.descr(at)?;
     let v = within(cells.limits().value_limit, value)?;
     cells.set_descr(at, Descr { a, f, v })
+}
+
+/// Makes the cell at an address an integer with 0 as F and V.
+pub fn set_integer(cells: &mut Cells, at: i64, a: i64) -> Option<()>
+    ensures { set_descr_at cells.old at (integer_alone a) ≡ written result cells.new }
+{
+    cells.set_descr(at, Descr { a, f: 0, v: 0 })
 }
 
 /// An integer as a field without a sign holds it, up to a limit.

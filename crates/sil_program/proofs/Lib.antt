@@ -1,5 +1,7 @@
 pub mod MadeStatements
 pub mod CardLemmas
+pub mod CardTexts
+pub mod FormatLemmas
 pub mod VerdictLemmas
 pub mod ScopeLemmas
 pub mod ProgramLemmas

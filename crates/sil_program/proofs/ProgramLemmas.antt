@@ -17,10 +17,9 @@ use Rattle.sil_symbols.specs.declared.stmt.Stmt.{Stmt}
 use Rattle.sil_base.specs.declared.line.Fault.{Fault}
 use Rattle.sil_operands.specs.Limits.{are_within_limits}
 use Rattle.sil_symbols.specs.Laws.{LawOfValues}
-use Rattle.sil_symbols.specs.StatementParts.{part_of, is_format}
+use Rattle.sil_symbols.specs.StatementParts.{part_of}
 use Rattle.sil_symbols.specs.SymbolRules.{faults_from, with_fault}
 use Rattle.sil_shapes.specs.Locations.{executable_count, statement_at, number_within}
-use Rattle.data_asm.specs.DataFields.{first_text}
 use Rattle.sil_symbols.specs.Addresses.{cells_of, past_part, past, spot_after, first_spot}
 use Rattle.sil_symbols.specs.Symbols.{size_names, value_of_name, extent, IsWithinLimits}
 use Rattle.sil_base.specs.declared.places.TheConstants.{FIRST_CELL}
@@ -40,9 +39,10 @@ use Rattle.syntax_tables.specs.declared.saying.Said.{Said}
 use Rattle.sil_arguments.specs.MadeArguments.{Scope, scope_of, and_before, args_of}
 use Rattle.sil_program.specs.Specials.{special_faults, special_rule, specials_in}
 use Rattle.sil_program.specs.Programs.{formats_of, statement_with, machine_statement, machine_statements, program_with}
-use Rattle.sil_program.specs.Verdicts.{is_assembled, is_built_macro, is_built_statement}
+use Rattle.sil_program.specs.Verdicts.{is_built_macro, is_built_statement}
 use Rattle.sil_program.specs.HeldPrograms.{HasFitPlaces, HaveShortLists, IsProgramOf}
 use Rattle.sil_arguments.proofs.ArgLemmas.{IsFirst, IsScope, args_fit, both, first_is}
+use Rattle.sil_program.proofs.FormatLemmas.{LawOfFormats, are_formats, are_short, few_bytes}
 use Rattle.sil_program.proofs.ScopeLemmas.{scope_is}
 
 -- ---- statements
@@ -102,12 +102,6 @@ made_count scope (s ∷ source) made h =
 
 -- ---- statements of a program
 
--- no macro of the assembly runs
-not_assembled : (m : Macro) → (row m).assembly ≡ false → is_assembled m ≡ false
-not_assembled macros.Format h = refl
-not_assembled macros.Acomp h = refl
-not_assembled _ h = h
-
 is_built_of : (a b : Bool) → (a || b) ≡ true → a ≡ false → b ≡ true
 is_built_of a b h unlike = grind arith
 
@@ -131,7 +125,7 @@ statement_fits b specials scope are s (Some args) made e h runs sound =
     let (shape, within) = args_fit b scope are (row s.name).places s.operands args sound.lists e in
     rw is (record {
       row = record { runs = runs; shape = shape; within = within };
-      built = is_built_of (is_assembled s.name) (is_built s.name) sound.built (not_assembled s.name runs);
+      built = is_built_of (row s.name).assembly (is_built s.name) sound.built runs;
       needed = sound.needed;
     })
 
@@ -175,21 +169,6 @@ all_sound specials place (s ∷ source) none built short =
 sound : (p : Parameters) (source : List Stmt) → special_faults p source ≡ [] → list_all is_built_statement source ≡ true → HaveShortLists source → All (IsSound (specials_in p source)) source
 unfolding special_faults
 sound p source none built short = all_sound (specials_in p source) 0 source none built short
-
--- no FORMAT is installed so far
-no_format : (m : Macro) → is_built_macro m ≡ true → is_format (part_of m) ≡ false
-unfolding is_built
-no_format macros.Format h = let no : ⊥ = cc in absurd no
-no_format _ h = refl
-
-unlisted : (b : Bool) (text : List ℕ) (texts : List (List ℕ)) → b ≡ false → cond b (text ∷ texts) texts ≡ texts
-unlisted b text texts h = rw h refl
-
-no_formats : (source : List Stmt) → list_all is_built_statement source ≡ true → formats_of source ≡ []
-no_formats [] h = refl
-no_formats (s ∷ source) h =
-    let (this, others) = both (is_built_statement s) (list_all is_built_statement source) h in
-    unlisted (is_format (part_of s.name)) (first_text s.operands) (formats_of source) (no_format s.name this) ∙ no_formats source others
 
 -- ---- special symbols
 
@@ -264,15 +243,14 @@ specials_fit p source program specials count places needed =
       needed = needed;
     }
 
-pub checked : LawOfValues → (p : Parameters) (source : List Stmt) (program : Program) → IsProgramOf p source program → IsChecked p.settings program
-checked values_fit p source program h =
+pub checked : LawOfValues → LawOfFormats → (p : Parameters) (source : List Stmt) (program : Program) → IsProgramOf p source program → IsChecked p.settings program
+checked values_fit formats_spelled p source program h =
     let over = h.made in
     let scope = scope_of p source h.lines in
     let (made, made_is, is) = found p source h.lines program.cells (machine_statements scope source) program over.made in
     let b = bounds_of program p.settings in
     let statements : program.statements ≡ made = ap (λ q. q.statements) is in
     let texts : program.formats ≡ formats_of source = ap (λ q. q.formats) is in
-    let formats : program.formats ≡ [] = texts ∙ no_formats source over.built in
     let specials : program.specials ≡ specials_in p source = ap (λ q. q.specials) is in
     let same : length program.statements ≡ length made = ap length statements in
     let count : executable_count source ≡ b.statements = made_count scope source made made_is ∙ sym same in
@@ -290,9 +268,9 @@ checked values_fit p source program h =
         cell_count = all;
         table_count = over.table_count;
         tables = over.tables;
-        formats = subst (All IsFormat) (sym formats) (All-nil IsFormat);
-        format_lengths = subst (All (λ text. length text ≤ 256)) (sym formats) (All-nil (λ text. length text ≤ 256));
-        format_bytes = omega (arith, ap (sum_by length) formats);
+        formats = subst (All IsFormat) (sym texts) (are_formats formats_spelled source h.formatted);
+        format_lengths = subst (All (λ text. length text ≤ 256)) (sym texts) (are_short source h.texts.each);
+        format_bytes = omega (arith, ap (sum_by length) texts, few_bytes source, h.texts.together);
         specials = specials_fit p source program specials (omega (arith, count)) over.specials (All-weaker (IsFit b program.specials) (λ (s : Statement). has_needed program.specials s.name ≡ true) (λ s f. f.needed) program.statements fit);
       };
       built = All-weaker (IsFit b program.specials) (λ (s : Statement). is_built s.name ≡ true) (λ s f. f.built) program.statements fit;

@@ -6,7 +6,6 @@ use Rattle.std.specs.declared.result.Result.TheVariants.{Ok, Err}
 use Rattle.layout_params.specs.Parameters.{Parameters}
 use Rattle.sil_base.specs.declared.line.Fault.{Fault}
 use Rattle.sil_macros.specs.declared.names.Macro.{Macro}
-use Rattle.sil_macros.specs.declared.names.Macro.TheVariants as macros
 use Rattle.sil_macros.specs.MacroRows.{row}
 use Rattle.sil_cards.specs.CardParts.{CardParts}
 use Rattle.sil_symbols.specs.declared.stmt.Stmt.{Stmt}
@@ -26,14 +25,9 @@ use Rattle.sil_program.specs.Statements.{statements_of}
 use Rattle.sil_program.specs.TableFaults.{table_faults}
 use Rattle.sil_program.specs.Programs.{program_of}
 
--- the macros of the assembly but FORMAT
-abbrev pub is_assembled : Macro → Bool
-is_assembled macros.Format = false
-is_assembled name = (row name).assembly
-
--- those, and the macros that are installed so far
+-- the macros of the assembly, and those that are installed so far
 abbrev pub is_built_macro : Macro → Bool
-is_built_macro name = is_assembled name || is_built name
+is_built_macro name = (row name).assembly || is_built name
 
 abbrev pub is_built_statement : Stmt → Bool
 is_built_statement s = is_built_macro s.name

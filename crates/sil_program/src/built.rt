@@ -5,7 +5,7 @@ ghost use Rattle.sil_program.specs.Built.{is_built};
 use sil_macros::{Macro, number_of_macro};
 
 /// The macros that are installed so far.
-pub const BUILT: [Macro; 75] = [
+pub const BUILT: [Macro; 79] = [
     Macro::Acomp,
     Macro::Acompc,
     Macro::Adjust,
@@ -13,6 +13,7 @@ pub const BUILT: [Macro; 75] = [
     Macro::Aeql,
     Macro::Aeqlc,
     Macro::Aeqlic,
+    Macro::Bkspce,
     Macro::Branch,
     Macro::Branic,
     Macro::Chkval,
@@ -21,6 +22,7 @@ pub const BUILT: [Macro; 75] = [
     Macro::Divide,
     Macro::Dvreal,
     Macro::Endex,
+    Macro::Enfile,
     Macro::Exreal,
     Macro::Getac,
     Macro::Getd,
@@ -46,6 +48,7 @@ pub const BUILT: [Macro; 75] = [
     Macro::Mult,
     Macro::Multc,
     Macro::Ordvst,
+    Macro::Output,
     Macro::Pop,
     Macro::Proc,
     Macro::Pstack,
@@ -58,6 +61,7 @@ pub const BUILT: [Macro; 75] = [
     Macro::Rcomp,
     Macro::Realst,
     Macro::Resetf,
+    Macro::Rewind,
     Macro::Rlint,
     Macro::Rrturn,
     Macro::Rsetfi,

@@ -10,11 +10,11 @@ ghost use Rattle.sil_symbols.specs.SymbolRules.{EndsOnce};
 ghost use Rattle.sil_symbols.specs.Symbols.{value_of};
 ghost use Rattle.syntax_tables.specs.TableFiles.{names_in};
 ghost use Rattle.syntax_tables.specs.Tables.{tables_of};
-ghost use Rattle.sil_program.specs.HeldPrograms.{HaveShortLists, IsMadeOf, IsProgramOf};
+ghost use Rattle.sil_program.specs.HeldPrograms.{HaveShortLists, HaveShortTexts, IsMadeOf, IsProgramOf};
 ghost use Rattle.sil_arguments.specs.HeldScopes.{IsBound};
 ghost use Rattle.sil_program.specs.Specials.{special_faults};
 ghost use Rattle.sil_program.specs.Statements.{statements_of};
-ghost use Rattle.sil_program.specs.Verdicts.{is_assembled, is_built_source, is_built_statement, unless_faults, verdict_built, verdict_with, verdict_of, verdict, IsStopFor, IsUnbuilt};
+ghost use Rattle.sil_program.specs.Verdicts.{is_built_source, is_built_statement, unless_faults, verdict_built, verdict_with, verdict_of, verdict, IsStopFor, IsUnbuilt};
 
 use crate::built::is_built;
 use crate::laws::law_of_programs;
@@ -27,7 +27,8 @@ use layout_params::{Cell, Params};
 use sil_arguments::{BoundSource, ProgramStop};
 use sil_base::{Fault, FaultStop, Items, MAX_CARDS, MAX_FILE_BYTES, MAX_TABLES};
 use sil_cards::Card;
-use sil_macros::{Macro, is_assembly};
+use sil_format::law_of_formats;
+use sil_macros::is_assembly;
 use sil_model::{Program, Table};
 use sil_operands::what_is_read_is_spelled;
 use sil_shapes::{Resolution, statement_faults};
@@ -35,20 +36,10 @@ use sil_symbols::{Stmt, law_of_values, resolve};
 use std::alloc::Global;
 use syntax_tables::read_tables;
 
-/// Whether a macro is one of the assembly but FORMAT.
-fn is_assembled(name: Macro) -> bool
-    ensures { result ≡ is_assembled name }
-{
-    match name {
-        Macro::Format => false,
-        _ => is_assembly(name),
-    }
-}
-
 fn is_built_statement(statement: &Stmt) -> bool
     ensures { result ≡ is_built_statement statement.now }
 {
-    is_assembled(statement.name) || is_built(statement.name)
+    is_assembly(statement.name) || is_built(statement.name)
 }
 
 /// Whether all statements are of macros that are built.
@@ -158,6 +149,7 @@ fn check_statements(
     requires short { length tables.now ≤ MAX_FILE_BYTES }
     requires ended { EndsOnce statements.now }
     requires lists { HaveShortLists statements.now }
+    requires texts { HaveShortTexts statements.now }
     ensures verdict { let answer = verdict_of params.now statements.now tables.now
         in MatchResult result (λ p. answer ≡ Ok p) (IsStopFor answer) }
     ensures made { IfOk result (IsProgramOf params.now statements.now) }
@@ -177,8 +169,8 @@ fn check_statements(
 /// The program of cards that were read, or why there is none. Faults of lines come first, those of
 /// names (N), then those of values (V), of statements (S), of data (A), of tables (T), which are the
 /// operands that name none and the lines of the tables file, and of special symbols (P). A source
-/// is not built so far where a statement is a FORMAT, or is neither of the assembly nor of a macro
-/// that is installed so far.
+/// is not built so far where a statement is neither of the assembly nor of a macro that is installed
+/// so far.
 pub fn check_cards(
     alloc: Global,
     cards: Vec<Card>,
@@ -196,6 +188,7 @@ pub fn check_cards(
 {
     what_is_read_is_spelled();
     law_of_values();
+    law_of_formats();
     law_of_programs();
     let statements = statements_of(alloc, cards)?;
     check_statements(alloc, &statements, tables, params)

@@ -1,5 +1,5 @@
 use Rattle.std.proofs.Common.{arith}
-use Rattle.exp_stack.proofs.JoinedParts.{grows_then}
+use Rattle.exp_common.proofs.JoinedParts.{grows_then}
 use Rattle.exp_calls.proofs.frames.append_call.Goals as goal
 
 pub returns : goal.returns

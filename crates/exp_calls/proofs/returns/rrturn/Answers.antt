@@ -1,4 +1,4 @@
-use Rattle.exp_stack.proofs.JoinedParts.{grows_from, grows_then}
+use Rattle.exp_common.proofs.JoinedParts.{grows_from, grows_then}
 use Rattle.exp_calls.proofs.Returning.{return_code, return_does, return_piece}
 use Rattle.exp_calls.proofs.returns.rrturn.Goals as goal
 

@@ -1,10 +1,10 @@
 use Rattle.std.proofs.Common.{length, lit≤, refl}
 use Rattle.std.proofs.lemmas.Int.{to_z-of_z}
 use Rattle.sil_model.specs.declared.program.Arg.TheVariants.{Absent}
-use Rattle.sil_model.specs.ComparisonClauses.{aeqlic}
+use Rattle.choice_clauses.specs.ComparisonClauses.{aeqlic}
 use Rattle.sil_model.specs.Integers.{◌⊞◌}
-use Rattle.exp_descr.proofs.Questions.{by_read}
-use Rattle.exp_choices.proofs.Leads.{goes_to, lead_within}
+use Rattle.exp_common.proofs.Questions.{by_read}
+use Rattle.exp_common.proofs.Leads.{goes_to, lead_within}
 use Rattle.exp_choices.proofs.Orders.{by_difference, by_number}
 use Rattle.exp_choices.proofs.comparisons.aeqlic.Goals as goal
 use mir.Val.{SFits}

@@ -2,11 +2,11 @@ use Rattle.std.proofs.Common.{length, lit≤, refl, rules}
 use Rattle.std.proofs.lemmas.Int.{to_z-of_z}
 use Rattle.std.specs.Prelude.{bit_and, ◌<◌, ◌==◌, ◌^◌}
 use Rattle.sil_model.specs.declared.program.Arg.TheVariants.{Absent}
-use Rattle.sil_model.specs.ComparisonClauses.{testf}
+use Rattle.choice_clauses.specs.ComparisonClauses.{testf}
 use Rattle.sil_micro.proofs.Making.{by_test}
-use Rattle.exp_descr.proofs.Arithmetic.{both_flags}
-use Rattle.exp_descr.proofs.Questions.{by_read}
-use Rattle.exp_choices.proofs.Leads.{goes_to, lead_within}
+use Rattle.exp_common.proofs.FlagBits.{both_flags}
+use Rattle.exp_common.proofs.Questions.{by_read}
+use Rattle.exp_common.proofs.Leads.{goes_to, lead_within}
 use Rattle.exp_choices.proofs.comparisons.testf.Goals as goal
 use mir.Val.{SFits}
 use mir.Syntax.{w64}

@@ -4,11 +4,11 @@ use Rattle.std.specs.Prelude.{pos}
 use Rattle.layout_params.specs.declared.cell.Cell.TheVariants.{Descr}
 use Rattle.sil_model.specs.Access.{put_cell}
 use Rattle.sil_model.specs.declared.program.Arg.TheVariants.{Absent}
-use Rattle.sil_model.specs.IntegerClauses.{mnsint}
+use Rattle.choice_clauses.specs.IntegerClauses.{mnsint}
 use Rattle.sil_model.specs.Integers.{◌⊟◌}
 use Rattle.sil_micro.proofs.Making.{by_option}
-use Rattle.exp_descr.proofs.Questions.{by_read}
-use Rattle.exp_choices.proofs.Leads.{goes_to, lead_within}
+use Rattle.exp_common.proofs.Questions.{by_read}
+use Rattle.exp_common.proofs.Leads.{goes_to, lead_within}
 use Rattle.exp_choices.proofs.Sums.{by_negative}
 use Rattle.exp_choices.proofs.integers.mnsint.Goals as goal
 use mir.Val.{SFits}

@@ -3,11 +3,11 @@ use Rattle.std.proofs.lemmas.Int.{to_z-of_z}
 use Rattle.layout_params.specs.declared.cell.Cell.TheVariants.{Descr}
 use Rattle.sil_model.specs.Access.{put_cell}
 use Rattle.sil_model.specs.declared.program.Arg.TheVariants.{Absent}
-use Rattle.sil_model.specs.IntegerClauses.{mult}
+use Rattle.choice_clauses.specs.IntegerClauses.{mult}
 use Rattle.sil_model.specs.Integers.{wrapped_product}
 use Rattle.sil_micro.proofs.Making.{by_option}
-use Rattle.exp_descr.proofs.Questions.{by_read}
-use Rattle.exp_choices.proofs.Leads.{goes_to, lead_within}
+use Rattle.exp_common.proofs.Questions.{by_read}
+use Rattle.exp_common.proofs.Leads.{goes_to, lead_within}
 use Rattle.exp_choices.proofs.Products.{by_product}
 use Rattle.exp_choices.proofs.integers.mult.Goals as goal
 use mir.Val.{SFits}

@@ -2,10 +2,10 @@ use Rattle.std.proofs.Common.{lit≤, refl}
 use Rattle.std.proofs.lemmas.Int.{to_z-of_z}
 use Rattle.layout_params.specs.declared.cell.Cell.TheVariants.{Descr}
 use Rattle.sil_model.specs.Access.{put_cell}
-use Rattle.sil_model.specs.IntegerClauses.{multc}
+use Rattle.choice_clauses.specs.IntegerClauses.{multc}
 use Rattle.sil_model.specs.Integers.{wrapped_product}
 use Rattle.sil_micro.proofs.Making.{by_option}
-use Rattle.exp_descr.proofs.Questions.{by_read, zero_within}
+use Rattle.exp_common.proofs.Questions.{by_read, zero_within}
 use Rattle.exp_choices.proofs.integers.multc.Goals as goal
 use mir.Val.{SFits}
 use mir.Syntax.{w64}

@@ -1,5 +1,5 @@
 use Rattle.std.proofs.Common.{lit≤, refl, arith}
-use Rattle.sil_model.specs.FlowClauses.{nothing}
+use Rattle.flow_clauses.specs.FlowClauses.{nothing}
 use Rattle.exp_control.proofs.ends.nothing.Goals as goal
 
 pub returns : goal.returns

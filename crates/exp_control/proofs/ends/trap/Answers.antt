@@ -1,5 +1,5 @@
 use Rattle.std.proofs.Common.{lit≤, refl, arith}
-use Rattle.sil_model.specs.FlowClauses.{trap}
+use Rattle.flow_clauses.specs.FlowClauses.{trap}
 use Rattle.exp_control.proofs.ends.trap.Goals as goal
 
 pub returns : goal.returns

@@ -1,7 +1,7 @@
 use Rattle.std.proofs.Common.{◌≡◌, length, true, lit≤, refl, arith}
 use Rattle.std.proofs.lemmas.Bool.Decides.{nat_tests}
 use Rattle.std.specs.Prelude.{nat_le}
-use Rattle.sil_model.specs.FlowClauses.{branch}
+use Rattle.flow_clauses.specs.FlowClauses.{branch}
 use Rattle.exp_control.proofs.jumps.branch.Goals as goal
 
 pub returns : goal.returns

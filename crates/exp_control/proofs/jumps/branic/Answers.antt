@@ -1,10 +1,10 @@
 use Rattle.std.proofs.Common.{lit≤, refl}
 use Rattle.std.proofs.lemmas.Int.{to_z-of_z}
-use Rattle.sil_model.specs.CallClauses.{branic}
+use Rattle.flow_clauses.specs.CallClauses.{branic}
 use Rattle.sil_model.specs.Integers.{◌⊞◌}
-use Rattle.sil_micro.specs.Operations.{entered_statement}
+use Rattle.sil_model.specs.Entries.{entered_statement}
 use Rattle.sil_micro.proofs.Making.{by_option}
-use Rattle.exp_descr.proofs.Questions.{by_read}
+use Rattle.exp_common.proofs.Questions.{by_read}
 use Rattle.exp_control.proofs.Settings.{statement}
 use Rattle.exp_control.proofs.jumps.branic.Goals as goal
 use mir.Val.{SFits}

@@ -1,6 +1,6 @@
 use Rattle.std.proofs.Common.{length, lit≤, refl}
-use Rattle.sil_model.specs.FlowClauses.{load}
-use Rattle.exp_choices.proofs.Leads.{goes_to, lead_within}
+use Rattle.flow_clauses.specs.FlowClauses.{load}
+use Rattle.exp_common.proofs.Leads.{goes_to, lead_within}
 use Rattle.exp_control.proofs.jumps.load.Goals as goal
 
 pub returns : goal.returns

@@ -1,7 +1,7 @@
 use Rattle.std.proofs.lemmas.Int.{to_z-of_z}
 use Rattle.exp_control.proofs.Selecting.{selection_code, selection_does, selection_piece}
 use Rattle.exp_control.proofs.selection.selbra.Goals as goal
-use Rattle.exp_stack.proofs.JoinedParts.{grows_from, grows_then}
+use Rattle.exp_common.proofs.JoinedParts.{grows_from, grows_then}
 use mir.Val.{SFits}
 use mir.Syntax.{w64}
 

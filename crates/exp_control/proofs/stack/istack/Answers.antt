@@ -1,5 +1,5 @@
 use Rattle.std.proofs.Common.{lit≤, refl}
-use Rattle.sil_model.specs.StackClauses.{istack}
+use Rattle.flow_clauses.specs.StackClauses.{istack}
 use Rattle.exp_control.proofs.Settings.{bottom}
 use Rattle.exp_control.proofs.stack.istack.Goals as goal
 

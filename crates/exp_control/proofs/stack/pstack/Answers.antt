@@ -4,9 +4,9 @@ use Rattle.std.specs.Prelude.{pos}
 use Rattle.layout_params.specs.declared.cell.Cell.TheVariants.{Descr}
 use Rattle.sil_model.specs.Access.{put_cell}
 use Rattle.sil_model.specs.Integers.{◌⊟◌}
-use Rattle.sil_model.specs.StackClauses.{pstack}
+use Rattle.flow_clauses.specs.StackClauses.{pstack}
 use Rattle.sil_micro.proofs.Making.{by_option}
-use Rattle.exp_descr.proofs.Questions.{zero_within}
+use Rattle.exp_common.proofs.Questions.{zero_within}
 use Rattle.exp_control.proofs.stack.pstack.Goals as goal
 use mir.Val.{SFits}
 use mir.Syntax.{w64}

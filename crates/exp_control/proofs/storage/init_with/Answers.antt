@@ -1,7 +1,7 @@
 use Rattle.std.proofs.Common.{◌≡◌, Some, length, lit≤, refl, subst, sym}
 use Rattle.std.proofs.lemmas.Int.{to_z-of_z}
 use Rattle.sil_model.specs.Access.{set_a_at}
-use Rattle.sil_model.specs.FlowClauses.{first_dynamic, init, past_dynamic}
+use Rattle.flow_clauses.specs.FlowClauses.{first_dynamic, init, past_dynamic}
 use Rattle.sil_micro.proofs.Making.{by_option}
 use Rattle.exp_control.specs.SelectionParts.{storage}
 use Rattle.exp_control.proofs.Settings.{first, past}

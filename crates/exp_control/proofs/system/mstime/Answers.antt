@@ -3,9 +3,9 @@ use Rattle.std.proofs.lemmas.Int.{to_z-of_z}
 use Rattle.std.specs.Prelude.{pos}
 use Rattle.layout_params.specs.declared.cell.Cell.TheVariants.{Descr}
 use Rattle.sil_model.specs.Access.{put_cell}
-use Rattle.sil_model.specs.FlowClauses.{mstime}
+use Rattle.flow_clauses.specs.FlowClauses.{mstime}
 use Rattle.sil_micro.proofs.Making.{by_option}
-use Rattle.exp_descr.proofs.Questions.{zero_within}
+use Rattle.exp_common.proofs.Questions.{zero_within}
 use Rattle.exp_control.proofs.Settings.{one_less}
 use Rattle.exp_control.proofs.system.mstime.Goals as goal
 use mir.Val.{SFits}

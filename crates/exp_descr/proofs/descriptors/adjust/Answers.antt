@@ -1,10 +1,10 @@
 use Rattle.std.proofs.Common.{lit≤, refl}
 use Rattle.std.proofs.lemmas.Int.{to_z-of_z}
 use Rattle.sil_model.specs.Access.{set_a_at}
-use Rattle.sil_model.specs.DescriptorClauses.{adjust}
+use Rattle.descr_clauses.specs.DescriptorClauses.{adjust}
 use Rattle.sil_model.specs.Integers.{◌⊞◌}
 use Rattle.sil_micro.proofs.Making.{by_option}
-use Rattle.exp_descr.proofs.Questions.{by_read}
+use Rattle.exp_common.proofs.Questions.{by_read}
 use Rattle.exp_descr.proofs.descriptors.adjust.Goals as goal
 use mir.Val.{SFits}
 use mir.Syntax.{w64}

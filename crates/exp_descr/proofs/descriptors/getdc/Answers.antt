@@ -2,10 +2,10 @@ use Rattle.std.proofs.Common.{lit≤, refl}
 use Rattle.std.proofs.lemmas.Int.{to_z-of_z}
 use Rattle.layout_params.specs.declared.cell.Cell.TheVariants.{Descr}
 use Rattle.sil_model.specs.Access.{put_cell}
-use Rattle.sil_model.specs.DescriptorClauses.{getdc}
+use Rattle.descr_clauses.specs.DescriptorClauses.{getdc}
 use Rattle.sil_model.specs.Integers.{◌⊞◌}
 use Rattle.sil_micro.proofs.Making.{by_option}
-use Rattle.exp_descr.proofs.Questions.{by_read}
+use Rattle.exp_common.proofs.Questions.{by_read}
 use Rattle.exp_descr.proofs.descriptors.getdc.Goals as goal
 use mir.Val.{SFits}
 use mir.Syntax.{w64}

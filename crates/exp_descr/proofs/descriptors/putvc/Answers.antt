@@ -2,10 +2,10 @@ use Rattle.std.proofs.Common.{lit≤, refl}
 use Rattle.std.proofs.lemmas.Int.{to_z-of_z}
 use Rattle.std.specs.Prelude.{pos}
 use Rattle.sil_model.specs.Access.{set_v_at}
-use Rattle.sil_model.specs.DescriptorClauses.{putvc}
+use Rattle.descr_clauses.specs.DescriptorClauses.{putvc}
 use Rattle.sil_model.specs.Integers.{◌⊞◌}
 use Rattle.sil_micro.proofs.Making.{by_option}
-use Rattle.exp_descr.proofs.Questions.{by_read}
+use Rattle.exp_common.proofs.Questions.{by_read}
 use Rattle.exp_descr.proofs.descriptors.putvc.Goals as goal
 use mir.Val.{SFits}
 use mir.Syntax.{w64}

@@ -3,11 +3,11 @@ use Rattle.std.proofs.lemmas.Int.{to_z-of_z}
 use Rattle.std.specs.Prelude.{pos, ◌<◌, ◌^◌}
 use Rattle.layout_params.specs.declared.cell.Cell.TheVariants.{Descr}
 use Rattle.sil_model.specs.Access.{put_cell}
-use Rattle.sil_model.specs.DescriptorClauses.{bits_without, resetf}
+use Rattle.descr_clauses.specs.DescriptorClauses.{bits_without, resetf}
 use Rattle.sil_model.specs.Integers.{within}
 use Rattle.sil_micro.proofs.Making.{by_option}
 use Rattle.exp_descr.proofs.Arithmetic.{without_flags}
-use Rattle.exp_descr.proofs.Questions.{by_read}
+use Rattle.exp_common.proofs.Questions.{by_read}
 use Rattle.exp_descr.proofs.descriptors.resetf.Goals as goal
 use mir.Val.{SFits}
 use mir.Syntax.{w64}

@@ -3,9 +3,9 @@ use Rattle.std.proofs.lemmas.Int.{to_z-of_z}
 use Rattle.std.specs.Prelude.{pos}
 use Rattle.layout_params.specs.declared.cell.Cell.TheVariants.{Descr}
 use Rattle.sil_model.specs.Access.{put_cell}
-use Rattle.sil_model.specs.DescriptorClauses.{setav}
+use Rattle.descr_clauses.specs.DescriptorClauses.{setav}
 use Rattle.sil_micro.proofs.Making.{by_option}
-use Rattle.exp_descr.proofs.Questions.{by_read, zero_within}
+use Rattle.exp_common.proofs.Questions.{by_read, zero_within}
 use Rattle.exp_descr.proofs.descriptors.setav.Goals as goal
 use mir.Val.{SFits}
 use mir.Syntax.{w64}

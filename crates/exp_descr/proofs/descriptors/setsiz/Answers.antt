@@ -1,9 +1,9 @@
 use Rattle.std.proofs.Common.{lit≤, refl}
 use Rattle.std.proofs.lemmas.Int.{to_z-of_z}
 use Rattle.sil_model.specs.Access.{set_v_at}
-use Rattle.sil_model.specs.DescriptorClauses.{setsiz}
+use Rattle.descr_clauses.specs.DescriptorClauses.{setsiz}
 use Rattle.sil_micro.proofs.Making.{by_option}
-use Rattle.exp_descr.proofs.Questions.{by_read}
+use Rattle.exp_common.proofs.Questions.{by_read}
 use Rattle.exp_descr.proofs.descriptors.setsiz.Goals as goal
 use mir.Val.{SFits}
 use mir.Syntax.{w64}

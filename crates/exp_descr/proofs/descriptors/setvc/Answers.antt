@@ -1,7 +1,7 @@
 use Rattle.std.proofs.Common.{lit≤, refl}
 use Rattle.std.proofs.lemmas.Int.{to_z-of_z}
 use Rattle.sil_model.specs.Access.{set_v_at}
-use Rattle.sil_model.specs.DescriptorClauses.{setvc}
+use Rattle.descr_clauses.specs.DescriptorClauses.{setvc}
 use Rattle.sil_micro.proofs.Making.{by_option}
 use Rattle.exp_descr.proofs.descriptors.setvc.Goals as goal
 use mir.Val.{SFits}

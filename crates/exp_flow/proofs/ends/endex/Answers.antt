@@ -1,7 +1,7 @@
 use Rattle.std.proofs.Common.{refl, lit≤}
 use Rattle.std.proofs.lemmas.Int.{to_z-of_z}
 use Rattle.sil_model.specs.Access.{descr_at}
-use Rattle.sil_model.specs.FlowClauses.{endex}
+use Rattle.flow_clauses.specs.FlowClauses.{endex}
 use Rattle.sil_micro.proofs.Making.{by_option}
 use Rattle.exp_flow.proofs.Zero.{by_zero}
 use Rattle.exp_flow.proofs.ends.endex.Goals as goal

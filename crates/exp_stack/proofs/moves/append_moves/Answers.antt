@@ -1,4 +1,4 @@
-use Rattle.exp_stack.proofs.JoinedParts.{grows_then}
+use Rattle.exp_common.proofs.JoinedParts.{grows_then}
 use Rattle.exp_stack.proofs.moves.append_moves.Goals as goal
 
 pub returns : goal.returns

@@ -1,4 +1,4 @@
-use Rattle.exp_stack.proofs.JoinedParts.{grows_from, grows_then}
+use Rattle.exp_common.proofs.JoinedParts.{grows_from, grows_then}
 use Rattle.exp_stack.proofs.Popping.{pop_code, pop_does, pop_piece}
 use Rattle.exp_stack.proofs.stack.pop.Goals as goal
 

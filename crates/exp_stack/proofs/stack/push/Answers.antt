@@ -1,4 +1,4 @@
-use Rattle.exp_stack.proofs.JoinedParts.{grows_from, grows_then}
+use Rattle.exp_common.proofs.JoinedParts.{grows_from, grows_then}
 use Rattle.exp_stack.proofs.Pushing.{push_code, push_does, push_piece}
 use Rattle.exp_stack.proofs.stack.push.Goals as goal
 

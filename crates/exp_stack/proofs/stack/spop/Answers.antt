@@ -1,4 +1,4 @@
-use Rattle.exp_stack.proofs.JoinedParts.{grows_from, grows_then}
+use Rattle.exp_common.proofs.JoinedParts.{grows_from, grows_then}
 use Rattle.exp_stack.proofs.SpecPopping.{spop_code, spop_does, spop_piece}
 use Rattle.exp_stack.proofs.stack.spop.Goals as goal
 

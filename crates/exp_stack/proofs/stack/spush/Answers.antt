@@ -1,4 +1,4 @@
-use Rattle.exp_stack.proofs.JoinedParts.{grows_from, grows_then}
+use Rattle.exp_common.proofs.JoinedParts.{grows_from, grows_then}
 use Rattle.exp_stack.proofs.SpecPushing.{spush_code, spush_does, spush_piece}
 use Rattle.exp_stack.proofs.stack.spush.Goals as goal
 

@@ -1,8 +1,7 @@
-use Rattle.std.proofs.Common.{◌≡◌, ap, sym, ◌∙◌, length, take}
+use Rattle.std.proofs.Common.{ap, sym, ◌∙◌, length}
 use Rattle.std.proofs.lemmas.Int.{to_z-of_z}
 use Rattle.sil_model.specs.Integers.{◌⊞◌}
 use Rattle.sil_model.specs.Lists.{all_written, line}
-use Rattle.sil_model.specs.StackClauses.{step_up}
 use Rattle.flow_clauses.proofs.TwoMore.{first_stops, second_goes}
 use Rattle.flow_clauses.proofs.frames.write_frame.Goals as goal
 use mir.Val.{SFits}

@@ -1,4 +1,3 @@
-use Rattle.std.proofs.Common.{◌≡◌}
 use Rattle.sil_model.specs.Lists.{all_written}
 use Rattle.sil_model.specs.Memory.{SameShape}
 use Rattle.flow_clauses.proofs.Turns.{WritesLeft}

@@ -1,7 +1,7 @@
 use Rattle.std.proofs.Common.{◌≡◌, length, ap, arith, subst}
 use Rattle.macro_expand.proofs.Costs.{makes_step}
 use Rattle.macro_expand.proofs.Growing.{statement_at, SoFar}
-use Rattle.macro_expand.proofs.Locating.{few_items, located, specials_among}
+use Rattle.macro_expand.proofs.Locating.{few_formats, few_items, formats_there, located, specials_among}
 use Rattle.macro_expand.proofs.Running.{runs_to}
 use Rattle.macro_expand.proofs.Stepping.{step}
 use Rattle.macro_expand.proofs.Whole.{whole}
@@ -19,6 +19,14 @@ expand-requires-clause-items c =
 
 pub expand-requires-clause-among : goal.expand-requires-clause-among
 expand-requires-clause-among c = specials_among c.args.program.now c.args.params.now.settings (length c.loop-k.code.entries) c.requires.well_formed.specials c.loop-k.invariant.statements
+
+pub expand-requires-clause-formats : goal.expand-requires-clause-formats
+expand-requires-clause-formats c =
+    formats_there c.args.program.now c.args.params.now.settings c.loop-k.k c.loop-k.code.formats c.index-statements-k.result c.requires.well_formed.rows
+    (statement_at c.args.program.now c.items-statements.result.now c.loop-k.k c.index-statements-k.result c.items-statements.ensures c.loop-k-test.true c.index-statements-k.is) c.loop-k.invariant.formats
+
+pub expand-requires-clause-few_formats : goal.expand-requires-clause-few_formats
+expand-requires-clause-few_formats c = few_formats c.args.program.now c.args.params.now.settings c.loop-k.code.formats c.requires.well_formed c.loop-k.invariant.formats
 
 pub loop-k-preserved : goal.loop-k-preserved
 loop-k-preserved c =

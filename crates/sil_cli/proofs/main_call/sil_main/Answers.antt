@@ -1,17 +1,19 @@
 use Rattle.std.proofs.Common.{rules}
-use Rattle.sil_cli.proofs.Statuses.{status-words, status-refused, status-store, status-missing, status-too-long, status-parameters, status-faults, status-not-built, status-stops, status-notes, status-never}
-use Rattle.sil_cli.proofs.Whole.{headline}
+use Rattle.command_report.proofs.Noting.{notes-then}
+use Rattle.sil_cli.proofs.Statuses.{status-words, status-refused, status-store, status-missing, status-too-long, status-parameters, status-faults, status-image, status-not-built, status-stops, status-notes, status-never}
+use Rattle.sil_cli.proofs.Whole.{headline, simulated, reported}
 use Rattle.sil_cli.proofs.main_call.sil_main.Goals as goal
 
 pub returns-clause-answers : goal.returns-clause-answers
 returns-clause-answers g c = record {
-  ending = c.perform-ending.result;
-  between = g.U.UnitSet.seen c.perform-ending.new.units;
+  ending = c.perform-came.result.ending;
+  lines = c.perform-came.ensures.lines;
+  between = g.U.UnitSet.seen c.perform-came.new.units;
   failed = c.finish-failed.result;
   put = c.note_finishes-put.result;
-  performs = c.perform-ending.ensures;
+  performs = c.perform-came.ensures.performs;
   finishes = c.finish-failed.ensures;
-  noted = c.note_finishes-put.ensures _ _ _ c.note_ending-line.ensures;
+  noted = notes-then _ _ _ _ _ _ _ _ _ _ _ c.note_ending-line.ensures c.note_finishes-put.ensures c.perform-came.ensures.lines _ _ c.perform-came.ensures.noted;
   status = search rules;
 }
 
@@ -50,3 +52,12 @@ returns-clause-never g c = status-never (returns-clause-answers g c)
 
 pub returns-clause-headline : goal.returns-clause-headline
 returns-clause-headline g c = headline (returns-clause-answers g c)
+
+pub returns-clause-simulated : goal.returns-clause-simulated
+returns-clause-simulated g c = simulated (returns-clause-answers g c)
+
+pub returns-clause-reported : goal.returns-clause-reported
+returns-clause-reported g c = reported (returns-clause-answers g c)
+
+pub returns-clause-refused_image : goal.returns-clause-refused_image
+returns-clause-refused_image g c = status-image (returns-clause-answers g c)

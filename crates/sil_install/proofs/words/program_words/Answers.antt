@@ -13,4 +13,4 @@ returns-clause-constants c = c.in_ok-emitted.ensures.constants ∙ same_texts c.
 
 pub returns-clause-behave : goal.returns-clause-behave
 returns-clause-behave c =
-    behave c.args.program.now c.args.params.now c.in_ok-code.code c.requires.well_formed c.in_ok-code.ensures.expansion c.requires.expanded c.law_of_steps.ensures c.law_of_units.ensures c.in_ok-code.ensures.costs c.in_ok-emitted.emitted.words c.in_ok-emitted.emitted.places c.in_ok-emitted.ensures.carries
+    behave c.args.program.now c.args.params.now c.in_ok-code.code c.requires.well_formed c.in_ok-code.ensures.expansion c.law_of_steps.ensures c.in_ok-code.ensures.costs c.in_ok-emitted.emitted.words c.in_ok-emitted.emitted.places c.in_ok-emitted.ensures.carries

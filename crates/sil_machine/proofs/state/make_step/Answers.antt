@@ -1,6 +1,6 @@
 use Rattle.std.proofs.Common.{refl}
 use Rattle.unit_io.specs.Units.{tapes_of}
-use Rattle.sil_model.specs.Machine.{make_step}
+use Rattle.sil_runs.specs.Machine.{make_step}
 use Rattle.sil_machine.proofs.Meeting.{makes}
 use Rattle.sil_machine.proofs.state.make_step.Goals as goal
 

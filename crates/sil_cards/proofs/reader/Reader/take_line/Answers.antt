@@ -1,7 +1,8 @@
-use Rattle.std.proofs.Common.{◌≡◌, length, ap, sym, ◌∙◌}
+use Rattle.std.proofs.Common.{◌≡◌, ◌≤◌, length, ap, subst, sym, ◌∙◌}
 use Rattle.sil_base.specs.Lines.{without_end}
 use Rattle.sil_cards.specs.Readings.{is_full}
 use Rattle.sil_cards.specs.CardVerdicts.{is_end, verdict}
+use Rattle.sil_cards.proofs.FieldLemmas.{ended_within}
 use Rattle.sil_cards.proofs.CardLemmas.{Gives, ends_line, goes_line, goes_either, taken_within}
 use Rattle.sil_cards.proofs.ReadLemmas.{step_copies}
 use Rattle.sil_cards.proofs.reader.Reader.take_line.Goals as goal
@@ -15,7 +16,8 @@ gives c =
     let v = c.limited-verdict.ensures in
     let full = c.is_full-full.ensures in
     let judged = c.in_ok-verdict.ensures.verdict in
-    record { verdict = cc; number = n.0; bytes = n.1; cards = cards; faults = faults }
+    let within : length c.without_end-text.result.now ≤ length c.args.line.now = subst (λ text. length text ≤ length c.args.line.now) (sym c.without_end-text.ensures) (ended_within c.args.line.now) in
+    record { within = within; verdict = cc; number = n.0; bytes = n.1; cards = cards; faults = faults }
 
 pub note-requires : goal.note-requires
 note-requires c = λ taken.

@@ -1,0 +1,2 @@
+pub mod ChoiceOperands
+pub mod ChoiceLaws

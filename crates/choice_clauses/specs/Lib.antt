@@ -1,0 +1,3 @@
+pub mod ComparisonClauses
+pub mod IntegerClauses
+pub mod ChoiceTable

@@ -1,0 +1,11 @@
+pub mod Digits
+pub mod Cuts
+pub mod CardTexts
+pub mod TailTexts
+pub mod CardsRead
+pub mod Bodies
+pub mod Forms
+pub mod SymbolsFound
+pub mod SymbolPhases
+pub mod OtherPhases
+pub mod Demos

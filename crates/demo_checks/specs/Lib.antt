@@ -1,0 +1,2 @@
+pub mod DemoCards
+pub mod DemoLaws

@@ -1,0 +1,2 @@
+pub mod DescriptorClauses
+pub mod DescrTable

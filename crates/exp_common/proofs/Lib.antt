@@ -1,0 +1,4 @@
+pub mod FlagBits
+pub mod JoinedParts
+pub mod Leads
+pub mod Questions

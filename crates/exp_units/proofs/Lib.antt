@@ -1,0 +1,6 @@
+pub mod LoudParts
+pub mod Calling
+pub mod Moving
+pub mod ItemWords
+pub mod Printing
+pub mod FormatTexts

@@ -1,0 +1,2 @@
+pub mod Emulated
+pub mod Following

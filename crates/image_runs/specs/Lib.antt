@@ -1,0 +1,4 @@
+pub mod ImageRuns
+pub mod Listings
+pub mod TracedRuns
+pub mod FollowedRuns

@@ -1,0 +1,119 @@
+-- In each group of expanders the table of clauses is the group's, and so is that of visits.
+use Rattle.std.proofs.Common.{◌≡◌, ℕ, Bool, true, false, List, refl, arith}
+use Rattle.std.specs.Prelude.{IsTrue, if◌then◌else◌}
+use Rattle.sil_macros.specs.declared.names.Macro.{Macro}
+use Rattle.sil_macros.specs.declared.names.Macro.TheVariants.{Acomp, Adjust, Branch, Endex, Output, Push, Rewind}
+use Rattle.sil_model.specs.declared.program.Arg.{Arg}
+use Rattle.sil_model.specs.declared.program.Specials.{Specials}
+use Rattle.sil_model.specs.Effects.{Effect}
+use Rattle.sil_model.specs.Sites.{Site}
+use Rattle.sil_model.specs.States.{State}
+use Rattle.descr_clauses.specs.DescrTable.{is_of_descr, descr_clause, descr_visits}
+use Rattle.choice_clauses.specs.ChoiceTable.{is_of_choice, choice_clause, choice_visits}
+use Rattle.flow_clauses.specs.FlowTable.{is_of_flow, flow_clause, flow_visits}
+use Rattle.unit_clauses.specs.UnitTable.{is_of_unit, unit_clause, unit_visits}
+use Rattle.sil_runs.specs.Costs.{visits}
+use Rattle.sil_runs.specs.Table.{clause}
+use Rattle.sil_micro.specs.Codes.{MicroCode}
+use Rattle.sil_micro.specs.Expands.{Expands}
+use Rattle.exp_choices.specs.Group.{is_choice}
+use Rattle.exp_control.specs.Group.{is_control}
+use Rattle.exp_descr.specs.Group.{is_descr}
+use Rattle.exp_flow.specs.Group.{is_flow}
+use Rattle.exp_stack.specs.Group.{is_stack}
+use Rattle.exp_units.specs.Group.{is_move, is_output}
+use Rattle.exp_units.specs.InFormats.{ExpandsIn}
+
+-- ---- what is expanded in a group has its clause in the group's table, and in none before it
+
+descr_of : (name : Macro) → IsTrue (is_descr name) → is_of_descr name ≡ true
+descr_of Adjust h = refl
+descr_of _ h = grind arith
+
+abbrev IsChoice : Macro → Type 0
+IsChoice name = (is_of_descr name ≡ false) × (is_of_choice name ≡ true)
+
+choice_of : (name : Macro) → IsTrue (is_choice name) → IsChoice name
+choice_of Acomp h = (refl, refl)
+choice_of _ h = (grind arith, grind arith)
+
+abbrev IsFlow : Macro → Type 0
+IsFlow name = (is_of_descr name ≡ false) × (is_of_choice name ≡ false) × (is_of_flow name ≡ true)
+
+flow_of : (name : Macro) → IsTrue (is_flow name) → IsFlow name
+flow_of Endex h = (refl, refl, refl)
+flow_of _ h = (grind arith, grind arith, grind arith)
+
+stack_of : (name : Macro) → IsTrue (is_stack name) → IsFlow name
+stack_of Push h = (refl, refl, refl)
+stack_of _ h = (grind arith, grind arith, grind arith)
+
+control_of : (name : Macro) → IsTrue (is_control name) → IsFlow name
+control_of Branch h = (refl, refl, refl)
+control_of _ h = (grind arith, grind arith, grind arith)
+
+abbrev IsUnit : Macro → Type 0
+IsUnit name = (is_of_descr name ≡ false) × (is_of_choice name ≡ false) × (is_of_flow name ≡ false) × (is_of_unit name ≡ true)
+
+move_of : (name : Macro) → IsTrue (is_move name) → IsUnit name
+move_of Rewind h = (refl, refl, refl, refl)
+move_of _ h = (grind arith, grind arith, grind arith, grind arith)
+
+output_of : (name : Macro) → IsTrue (is_output name) → IsUnit name
+output_of Output h = (refl, refl, refl, refl)
+output_of _ h = (grind arith, grind arith, grind arith, grind arith)
+
+-- ---- so an expansion by the group's table is one by the table
+
+module _ {old new : MicroCode} {k : ℕ} {specials : Specials} {args : List Arg} {prints : Bool} where
+  first : (b : Bool) (c d : Site → State → Effect) (v w : Site → State → ℕ) → b ≡ true → Expands old new k specials args c v prints → Expands old new k specials args (if b then c else d) (if b then v else w) prints
+  first true c d v w e x = x
+  first false c d v w e x = absurd (cc)
+
+  second : (b : Bool) (c d : Site → State → Effect) (v w : Site → State → ℕ) → b ≡ false → Expands old new k specials args d w prints → Expands old new k specials args (if b then c else d) (if b then v else w) prints
+  second true c d v w e x = absurd (cc)
+  second false c d v w e x = x
+
+  pub by_descr : (name : Macro) → IsTrue (is_descr name) → Expands old new k specials args (descr_clause name) (descr_visits name) prints → Expands old new k specials args (clause name) (visits name) prints
+  unfolding clause
+  by_descr name h x = first (is_of_descr name) _ _ _ _ (descr_of name h) x
+
+  pub by_choice : (name : Macro) → IsTrue (is_choice name) → Expands old new k specials args (choice_clause name) (choice_visits name) prints → Expands old new k specials args (clause name) (visits name) prints
+  unfolding clause
+  by_choice name h x = let e = choice_of name h in second (is_of_descr name) _ _ _ _ e.0 (first (is_of_choice name) _ _ _ _ e.1 x)
+
+  by_flows : (name : Macro) → IsFlow name → Expands old new k specials args (flow_clause name) (flow_visits name) prints → Expands old new k specials args (clause name) (visits name) prints
+  unfolding clause
+  by_flows name e x = second (is_of_descr name) _ _ _ _ e.0 (second (is_of_choice name) _ _ _ _ e.1 (first (is_of_flow name) _ _ _ _ e.2 x))
+
+  pub by_flow : (name : Macro) → IsTrue (is_flow name) → Expands old new k specials args (flow_clause name) (flow_visits name) prints → Expands old new k specials args (clause name) (visits name) prints
+  by_flow name h x = by_flows name (flow_of name h) x
+
+  pub by_stack : (name : Macro) → IsTrue (is_stack name) → Expands old new k specials args (flow_clause name) (flow_visits name) prints → Expands old new k specials args (clause name) (visits name) prints
+  by_stack name h x = by_flows name (stack_of name h) x
+
+  pub by_control : (name : Macro) → IsTrue (is_control name) → Expands old new k specials args (flow_clause name) (flow_visits name) prints → Expands old new k specials args (clause name) (visits name) prints
+  by_control name h x = by_flows name (control_of name h) x
+
+  pub by_move : (name : Macro) → IsTrue (is_move name) → Expands old new k specials args (unit_clause name) (unit_visits name) prints → Expands old new k specials args (clause name) (visits name) prints
+  unfolding clause
+  by_move name h x =
+      let e = move_of name h in
+      second (is_of_descr name) _ _ _ _ e.0 (second (is_of_choice name) _ _ _ _ e.1 (second (is_of_flow name) _ _ _ _ e.2 (first (is_of_unit name) _ _ _ _ e.3 x)))
+
+  -- of a statement that names a format
+  first_in : (b : Bool) (c d : Site → State → Effect) (v w : Site → State → ℕ) → b ≡ true → ExpandsIn old new k specials args c v prints → ExpandsIn old new k specials args (if b then c else d) (if b then v else w) prints
+  first_in true c d v w e x = x
+  first_in false c d v w e x = absurd (cc)
+
+  second_in : (b : Bool) (c d : Site → State → Effect) (v w : Site → State → ℕ) → b ≡ false → ExpandsIn old new k specials args d w prints → ExpandsIn old new k specials args (if b then c else d) (if b then v else w) prints
+  second_in true c d v w e x = absurd (cc)
+  second_in false c d v w e x = x
+
+  pub by_output : (name : Macro) → IsTrue (is_output name) → ExpandsIn old new k specials args (unit_clause name) (unit_visits name) prints → ExpandsIn old new k specials args (clause name) (visits name) prints
+  unfolding clause
+  by_output name h x =
+      let e = output_of name h in
+      second_in (is_of_descr name) _ _ _ _ e.0 (second_in (is_of_choice name) _ _ _ _ e.1 (second_in (is_of_flow name) _ _ _ _ e.2 (first_in (is_of_unit name) _ _ _ _ e.3 x)))
+
+pub ruleset groups = (by_descr, by_choice, by_flow, by_stack, by_control, by_move)

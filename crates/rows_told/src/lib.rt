@@ -1,0 +1,9 @@
+// Worked rows of what commands tell and print, call by call.
+#![tactic(auto)]
+
+#[cfg(test)]
+mod changed;
+#[cfg(test)]
+mod printing;
+#[cfg(test)]
+mod told;

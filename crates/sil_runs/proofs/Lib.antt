@@ -1,0 +1,4 @@
+pub mod ClauseLaws
+pub mod Alone
+pub mod Runs
+pub mod Steady

@@ -1,0 +1,3 @@
+mod UnitChanges
+mod PrintLemmas
+mod ProbeLemmas

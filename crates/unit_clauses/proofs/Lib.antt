@@ -1,0 +1,2 @@
+pub mod UnitCallLaws
+pub mod UnitTableLaws

@@ -1,0 +1,2 @@
+pub mod UnitClauses
+pub mod UnitTable
