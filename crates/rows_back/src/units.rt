@@ -7,8 +7,8 @@ use std::alloc::{AllocError, Global};
 use std::test::Fail;
 use unit_io::{Tape, Unit, Units};
 
-/// Formats: of a text, of characters, of a number, and of a number with decimals.
-static FORMATS: &[u8] = b"(3HABC)(2A1)(I3)(F5.1)";
+/// Formats: of a text, of characters, of a number, of a number with decimals, and of both on two records.
+static FORMATS: &[u8] = b"(3HABC)(2A1)(I3)(F5.1)(I3/F5.1)";
 
 /// What stands on a unit before a call.
 static RECORDS: [&[u8]; 2] = [b"ONE", b"TWO"];
@@ -17,7 +17,7 @@ static RECORDS: [&[u8]; 2] = [b"ONE", b"TWO"];
 /// that it leaves.
 type Row = (u64, [u64; 6], u64, &'static [&'static [u8]]);
 
-static CALLS: [Row; 12] = [
+static CALLS: [Row; 14] = [
     (2, [6, SCRATCH, 3, 0, 0, 0], 0, &[b"ONE", b"TWO"]),
     (2, [6, 0, 0, 0, 0, 0], 0, &[b"ONE", b"TWO"]),
     (3, [6, CONSTANTS, 7, 0, 0, 0], 0, &[b"ABC"]),
@@ -36,6 +36,15 @@ static CALLS: [Row; 12] = [
         3,
         &[b"ONE", b"TWO"],
     ),
+    // no record is written before one that can't be laid out
+    (
+        3,
+        [6, CONSTANTS + 22, 9, SCRATCH, 2, 1],
+        3,
+        &[b"ONE", b"TWO"],
+    ),
+    // an absent unit comes before a text that is no format
+    (3, [4, CONSTANTS, 6, 0, 0, 0], 4, &[b"ONE", b"TWO"]),
     (4, [6, 0, 0, 0, 0, 0], 0, &[b"ONE", b"TWO"]),
     (5, [6, 0, 0, 0, 0, 0], 0, &[b"ONE", b"TWO"]),
     (6, [6, 0, 0, 0, 0, 0], 0, &[]),

@@ -18,15 +18,19 @@ fn put_part(text: &mut String, block: &Block, name: &str) -> Result<(), AllocErr
     Ok(())
 }
 
-/// Puts a line of parameters, or the last one of a block that begins with the same name.
-fn put_param(text: &mut String, head: &Block, row: &Block, line: &str) -> Result<(), AllocError> {
-    let mut last = line;
-    for other in head.params.iter().chain(row.params.iter()) {
+/// A line of parameters, or the last one of a block that begins with the same name.
+fn param_of<'a>(block: &'a Block, line: &'a str) -> &'a str {
+    for other in block.params.iter().rev() {
         if first_word(other.as_str()) == first_word(line) {
-            last = other.as_str();
+            return other.as_str();
         }
     }
-    text.push_str(last)?;
+    line
+}
+
+/// Puts a line of parameters, or the one that the blocks have in its place.
+fn put_param(text: &mut String, head: &Block, row: &Block, line: &str) -> Result<(), AllocError> {
+    text.push_str(param_of(row, param_of(head, line)))?;
     text.push('\n')
 }
 

@@ -6,4 +6,6 @@ mod changed;
 #[cfg(test)]
 mod printing;
 #[cfg(test)]
+mod silent;
+#[cfg(test)]
 mod told;
