@@ -21,6 +21,7 @@ use exp_choices::{expand_choice, is_choice};
 use exp_control::{expand_control, is_control};
 use exp_descr::expand_descr;
 use exp_flow::{expand_flow, is_flow};
+use exp_spec::{expand_spec, is_spec};
 use exp_stack::{expand_stack, is_stack};
 use exp_units::{expand_move, expand_output, is_move, is_output};
 use layout_params::Params;
@@ -141,6 +142,8 @@ fn expand_alone(
         expand_control(alloc, statement, at, specials, code)
     } else if is_move(statement.name) {
         expand_move(alloc, statement, at, specials, code)
+    } else if is_spec(statement.name) {
+        expand_spec(alloc, statement, at, specials, code)
     } else {
         expand_descr(alloc, statement, at, specials, code)
     }

@@ -27,11 +27,15 @@ use flow_clauses::{branch, endex, load, selbra};
 use sil_base::MAX_STEPS;
 use sil_macros::Macro;
 use sil_model::Flow;
+use spec_clauses::{
+    addlg, bksize, fshrtn, getlg, getlth, getspc, locsp, putlg, putspc, remsp, setlc, setsp,
+    shortn, subsp,
+};
 use std::alloc::Global;
 use unit_io::UnitSet;
 
 /// What a statement does whose macro calls a unit.
-#[tactic(auto, unfolding(sil_runs::specs::Table::clause, descr_clauses::specs::DescrTable::descr_clause, choice_clauses::specs::ChoiceTable::choice_clause, flow_clauses::specs::FlowTable::flow_clause, unit_clauses::specs::UnitTable::unit_clause), using(crate::proofs::Meeting::meets, crate::proofs::KeptUnits::kept_units))]
+#[tactic(auto, unfolding(sil_runs::specs::Table::clause, descr_clauses::specs::DescrTable::descr_clause, choice_clauses::specs::ChoiceTable::choice_clause, flow_clauses::specs::FlowTable::flow_clause, unit_clauses::specs::UnitTable::unit_clause, spec_clauses::specs::SpecTable::spec_clause), using(crate::proofs::Meeting::meets, crate::proofs::KeptUnits::kept_units))]
 fn perform_on_units<U: UnitSet>(
     alloc: Global,
     name: Macro,
@@ -57,7 +61,7 @@ fn perform_on_units<U: UnitSet>(
 }
 
 /// What a statement does whose macro calls no unit.
-#[tactic(auto, unfolding(sil_runs::specs::Table::clause, descr_clauses::specs::DescrTable::descr_clause, choice_clauses::specs::ChoiceTable::choice_clause, flow_clauses::specs::FlowTable::flow_clause, unit_clauses::specs::UnitTable::unit_clause, flow_clauses::specs::FlowClauses::nothing, flow_clauses::specs::FlowClauses::trap))]
+#[tactic(auto, unfolding(sil_runs::specs::Table::clause, descr_clauses::specs::DescrTable::descr_clause, choice_clauses::specs::ChoiceTable::choice_clause, flow_clauses::specs::FlowTable::flow_clause, unit_clauses::specs::UnitTable::unit_clause, spec_clauses::specs::SpecTable::spec_clause, flow_clauses::specs::FlowClauses::nothing, flow_clauses::specs::FlowClauses::trap))]
 fn perform_alone(name: Macro, site: &Site, steps: u64, parts: &mut Parts) -> Option<Flow>
     requires few { steps ≤ MAX_STEPS }
     requires alone { calls_unit name ≡ false }
@@ -66,10 +70,12 @@ fn perform_alone(name: Macro, site: &Site, steps: u64, parts: &mut Parts) -> Opt
     match name {
         Macro::Acomp => acomp(site.args(), &parts.cells),
         Macro::Acompc => acompc(site.args(), &parts.cells),
+        Macro::Addlg => addlg(site.args(), &mut parts.cells),
         Macro::Adjust => adjust(site.args(), &mut parts.cells),
         Macro::Aeql => aeql(site.args(), &parts.cells),
         Macro::Aeqlc => aeqlc(site.args(), &parts.cells),
         Macro::Aeqlic => aeqlic(site.args(), &parts.cells),
+        Macro::Bksize => bksize(site.args(), site.params(), &mut parts.cells),
         Macro::Branch => branch(site.args(), &parts.cells),
         Macro::Branic => branic(site, &parts.cells),
         Macro::Chkval => chkval(site.args(), &parts.cells),
@@ -77,10 +83,14 @@ fn perform_alone(name: Macro, site: &Site, steps: u64, parts: &mut Parts) -> Opt
         Macro::Deql => deql(site.args(), &parts.cells),
         Macro::Divide => divide(site.args(), &mut parts.cells),
         Macro::Endex => endex(site.args(), &parts.cells),
+        Macro::Fshrtn => fshrtn(site.args(), &mut parts.cells),
         Macro::Getac => getac(site.args(), &mut parts.cells),
         Macro::Getd => getd(site.args(), &mut parts.cells),
         Macro::Getdc => getdc(site.args(), &mut parts.cells),
+        Macro::Getlg => getlg(site.args(), &mut parts.cells),
+        Macro::Getlth => getlth(site.args(), &mut parts.cells),
         Macro::Getsiz => getsiz(site.args(), &mut parts.cells),
+        Macro::Getspc => getspc(site.args(), &mut parts.cells),
         Macro::Incra => incra(site.args(), &mut parts.cells),
         Macro::Incrv => incrv(site.args(), &mut parts.cells),
         Macro::Init => init(site, &mut parts.cells),
@@ -88,6 +98,7 @@ fn perform_alone(name: Macro, site: &Site, steps: u64, parts: &mut Parts) -> Opt
         Macro::Lcomp => lcomp(site.args(), &parts.cells),
         Macro::Leqlc => leqlc(site.args(), &parts.cells),
         Macro::Load => load(site.args(), &parts.cells),
+        Macro::Locsp => locsp(site.args(), &mut parts.cells),
         Macro::Mnsint => mnsint(site.args(), &mut parts.cells),
         Macro::Mova => mova(site.args(), &mut parts.cells),
         Macro::Movd => movd(site.args(), &mut parts.cells),
@@ -102,8 +113,11 @@ fn perform_alone(name: Macro, site: &Site, steps: u64, parts: &mut Parts) -> Opt
         Macro::Putac => putac(site.args(), &mut parts.cells),
         Macro::Putd => putd(site.args(), &mut parts.cells),
         Macro::Putdc => putdc(site.args(), &mut parts.cells),
+        Macro::Putlg => putlg(site.args(), &mut parts.cells),
+        Macro::Putspc => putspc(site.args(), &mut parts.cells),
         Macro::Putvc => putvc(site.args(), &mut parts.cells),
         Macro::Rcall => rcall(site, parts),
+        Macro::Remsp => remsp(site.args(), &mut parts.cells),
         Macro::Resetf => resetf(site.args(), &mut parts.cells),
         Macro::Rrturn => rrturn(site, parts),
         Macro::Rsetfi => rsetfi(site.args(), &mut parts.cells),
@@ -112,11 +126,15 @@ fn perform_alone(name: Macro, site: &Site, steps: u64, parts: &mut Parts) -> Opt
         Macro::Setav => setav(site.args(), &mut parts.cells),
         Macro::Setf => setf(site.args(), &mut parts.cells),
         Macro::Setfi => setfi(site.args(), &mut parts.cells),
+        Macro::Setlc => setlc(site.args(), &mut parts.cells),
         Macro::Setsiz => setsiz(site.args(), &mut parts.cells),
+        Macro::Setsp => setsp(site.args(), &mut parts.cells),
         Macro::Setva => setva(site.args(), &mut parts.cells),
         Macro::Setvc => setvc(site.args(), &mut parts.cells),
+        Macro::Shortn => shortn(site.args(), &mut parts.cells),
         Macro::Spop => spop(site, parts),
         Macro::Spush => spush(site, parts),
+        Macro::Subsp => subsp(site.args(), &mut parts.cells),
         Macro::Subtrt => subtrt(site.args(), &mut parts.cells),
         Macro::Sum => sum(site.args(), &mut parts.cells),
         Macro::Testf => testf(site.args(), &parts.cells),

@@ -82,6 +82,13 @@ impl<'p> Site<'p> {
         maybe_place_list(self.args, i)
     }
 
+    /// The parameters.
+    pub fn params(&self) -> &'p Params
+        ensures { result.now ≡ self.now.parameters }
+    {
+        self.params
+    }
+
     /// The special symbols.
     pub fn specials(&self) -> Specials
         ensures { result ≡ self.now.program.specials }

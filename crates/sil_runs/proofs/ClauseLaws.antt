@@ -16,6 +16,8 @@ use Rattle.flow_clauses.specs.FlowTable.{is_of_flow}
 use Rattle.flow_clauses.proofs.FlowTableLaws.{flow_lawful}
 use Rattle.unit_clauses.specs.UnitTable.{is_of_unit}
 use Rattle.unit_clauses.proofs.UnitTableLaws.{unit_lawful}
+use Rattle.spec_clauses.specs.SpecTable.{is_of_spec}
+use Rattle.spec_clauses.proofs.SpecLaws.{spec_lawful}
 use Rattle.sil_runs.specs.Table.{clause}
 use Rattle.sil_runs.specs.Costs.{visits}
 
@@ -30,4 +32,4 @@ by_group name false c d v w x y = y
 
 pub lawful : (name : Macro) → IsLawful name (clause name) (visits name)
 unfolding clause
-lawful name = by_group name (is_of_descr name) _ _ _ _ (descr_lawful name) (by_group name (is_of_choice name) _ _ _ _ (choice_lawful name) (by_group name (is_of_flow name) _ _ _ _ (flow_lawful name) (by_group name (is_of_unit name) _ _ _ _ (unit_lawful name) (unbuilt name))))
+lawful name = by_group name (is_of_descr name) _ _ _ _ (descr_lawful name) (by_group name (is_of_choice name) _ _ _ _ (choice_lawful name) (by_group name (is_of_flow name) _ _ _ _ (flow_lawful name) (by_group name (is_of_unit name) _ _ _ _ (unit_lawful name) (by_group name (is_of_spec name) _ _ _ _ (spec_lawful name) (unbuilt name)))))

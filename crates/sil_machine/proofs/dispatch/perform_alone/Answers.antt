@@ -1,7 +1,7 @@
 use Rattle.std.proofs.Common.{◌≡◌, None, refl}
 use Rattle.std.specs.Prelude.{false}
 use Rattle.sil_macros.specs.declared.names.Macro.{Macro}
-use Rattle.sil_macros.specs.declared.names.Macro.TheVariants.{Acomp, Acompc, Adjust, Adreal, Aeql, Aeqlc, Aeqlic, Bkspce, Branch, Branic, Chkval, Decra, Deql, Divide, Dvreal, Endex, Enfile, Exreal, Getac, Getd, Getdc, Getsiz, Incra, Incrv, Init, Intrl, Istack, Lcomp, Leqlc, Link, Load, Mnreal, Mnsint, Mova, Movd, Movdic, Movv, Mpreal, Mstime, Mult, Multc, Ordvst, Output, Pop, Proc, Pstack, Push, Putac, Putd, Putdc, Putvc, Rcall, Rcomp, Realst, Resetf, Rewind, Rlint, Rrturn, Rsetfi, Sbreal, Selbra, Setac, Setav, Setf, Setfi, Setsiz, Setva, Setvc, Spop, Spreal, Spush, Subtrt, Sum, Testf, Testfi, Unload, Vcmpic, Veql, Veqlc}
+use Rattle.sil_macros.specs.declared.names.Macro.TheVariants.{Acomp, Acompc, Addlg, Adjust, Adreal, Aeql, Aeqlc, Aeqlic, Bksize, Bkspce, Branch, Branic, Chkval, Decra, Deql, Divide, Dvreal, Endex, Enfile, Exreal, Fshrtn, Getac, Getd, Getdc, Getlg, Getlth, Getsiz, Getspc, Incra, Incrv, Init, Intrl, Istack, Lcomp, Leqlc, Link, Load, Locsp, Mnreal, Mnsint, Mova, Movd, Movdic, Movv, Mpreal, Mstime, Mult, Multc, Ordvst, Output, Pop, Proc, Pstack, Push, Putac, Putd, Putdc, Putlg, Putspc, Putvc, Rcall, Rcomp, Realst, Remsp, Resetf, Rewind, Rlint, Rrturn, Rsetfi, Sbreal, Selbra, Setac, Setav, Setf, Setfi, Setlc, Setsiz, Setsp, Setva, Setvc, Shortn, Spop, Spreal, Spush, Subsp, Subtrt, Sum, Testf, Testfi, Unload, Vcmpic, Veql, Veqlc}
 use Rattle.sil_model.specs.UnitMacros.{calls_unit}
 use Rattle.sil_runs.specs.Table.{clause}
 use Rattle.sil_machine.specs.MachineParts.{state_of}
@@ -15,11 +15,13 @@ returns-in_default c k tapes = go c.args.name refl c.requires.alone
     go : (n : Macro) → c.args.name ≡ n → calls_unit n ≡ false → clause n c.args.site.now (state_of k c.args.steps c.args.parts.now tapes) ≡ None
     go Acomp e h = absurd (c.in_default.not-Acomp e)
     go Acompc e h = absurd (c.in_default.not-Acompc e)
+    go Addlg e h = absurd (c.in_default.not-Addlg e)
     go Adjust e h = absurd (c.in_default.not-Adjust e)
     go Adreal e h = absurd (c.in_default.not-Adreal e)
     go Aeql e h = absurd (c.in_default.not-Aeql e)
     go Aeqlc e h = absurd (c.in_default.not-Aeqlc e)
     go Aeqlic e h = absurd (c.in_default.not-Aeqlic e)
+    go Bksize e h = absurd (c.in_default.not-Bksize e)
     go Bkspce e h = cc
     go Branch e h = absurd (c.in_default.not-Branch e)
     go Branic e h = absurd (c.in_default.not-Branic e)
@@ -31,10 +33,14 @@ returns-in_default c k tapes = go c.args.name refl c.requires.alone
     go Endex e h = absurd (c.in_default.not-Endex e)
     go Enfile e h = cc
     go Exreal e h = absurd (c.in_default.not-Exreal e)
+    go Fshrtn e h = absurd (c.in_default.not-Fshrtn e)
     go Getac e h = absurd (c.in_default.not-Getac e)
     go Getd e h = absurd (c.in_default.not-Getd e)
     go Getdc e h = absurd (c.in_default.not-Getdc e)
+    go Getlg e h = absurd (c.in_default.not-Getlg e)
+    go Getlth e h = absurd (c.in_default.not-Getlth e)
     go Getsiz e h = absurd (c.in_default.not-Getsiz e)
+    go Getspc e h = absurd (c.in_default.not-Getspc e)
     go Incra e h = absurd (c.in_default.not-Incra e)
     go Incrv e h = absurd (c.in_default.not-Incrv e)
     go Init e h = absurd (c.in_default.not-Init e)
@@ -44,6 +50,7 @@ returns-in_default c k tapes = go c.args.name refl c.requires.alone
     go Leqlc e h = absurd (c.in_default.not-Leqlc e)
     go Link e h = absurd (c.in_default.not-Link e)
     go Load e h = absurd (c.in_default.not-Load e)
+    go Locsp e h = absurd (c.in_default.not-Locsp e)
     go Mnreal e h = absurd (c.in_default.not-Mnreal e)
     go Mnsint e h = absurd (c.in_default.not-Mnsint e)
     go Mova e h = absurd (c.in_default.not-Mova e)
@@ -63,10 +70,13 @@ returns-in_default c k tapes = go c.args.name refl c.requires.alone
     go Putac e h = absurd (c.in_default.not-Putac e)
     go Putd e h = absurd (c.in_default.not-Putd e)
     go Putdc e h = absurd (c.in_default.not-Putdc e)
+    go Putlg e h = absurd (c.in_default.not-Putlg e)
+    go Putspc e h = absurd (c.in_default.not-Putspc e)
     go Putvc e h = absurd (c.in_default.not-Putvc e)
     go Rcall e h = absurd (c.in_default.not-Rcall e)
     go Rcomp e h = absurd (c.in_default.not-Rcomp e)
     go Realst e h = absurd (c.in_default.not-Realst e)
+    go Remsp e h = absurd (c.in_default.not-Remsp e)
     go Resetf e h = absurd (c.in_default.not-Resetf e)
     go Rewind e h = cc
     go Rlint e h = absurd (c.in_default.not-Rlint e)
@@ -78,12 +88,16 @@ returns-in_default c k tapes = go c.args.name refl c.requires.alone
     go Setav e h = absurd (c.in_default.not-Setav e)
     go Setf e h = absurd (c.in_default.not-Setf e)
     go Setfi e h = absurd (c.in_default.not-Setfi e)
+    go Setlc e h = absurd (c.in_default.not-Setlc e)
     go Setsiz e h = absurd (c.in_default.not-Setsiz e)
+    go Setsp e h = absurd (c.in_default.not-Setsp e)
     go Setva e h = absurd (c.in_default.not-Setva e)
     go Setvc e h = absurd (c.in_default.not-Setvc e)
+    go Shortn e h = absurd (c.in_default.not-Shortn e)
     go Spop e h = absurd (c.in_default.not-Spop e)
     go Spreal e h = absurd (c.in_default.not-Spreal e)
     go Spush e h = absurd (c.in_default.not-Spush e)
+    go Subsp e h = absurd (c.in_default.not-Subsp e)
     go Subtrt e h = absurd (c.in_default.not-Subtrt e)
     go Sum e h = absurd (c.in_default.not-Sum e)
     go Testf e h = absurd (c.in_default.not-Testf e)

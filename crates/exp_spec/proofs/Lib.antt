@@ -1,0 +1,7 @@
+mod Sizes
+mod LengthFields
+mod SpecWrites
+mod SizeWrites
+mod SpecHeads
+mod TitleFlag
+mod ZeroAddresses

@@ -1,0 +1,2 @@
+pub mod SpecFits
+pub mod SpecLaws

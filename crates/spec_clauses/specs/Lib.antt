@@ -1,0 +1,2 @@
+pub mod SpecifierClauses
+pub mod SpecTable
