@@ -1,0 +1,6 @@
+pub mod Turns
+pub mod Room
+pub mod StringLawful
+pub mod StringKeeps
+pub mod StringVisits
+pub mod StringLaws

@@ -1,0 +1,4 @@
+pub mod Walks
+pub mod StringClauses
+pub mod StringTable
+pub mod Bounds

@@ -1,0 +1,12 @@
+pub mod Words
+pub mod StringHeads
+pub mod Hashes
+pub mod Trimming
+pub mod Comparing
+pub mod Appending
+pub mod Balancing
+pub mod Texts
+pub mod DigitWords
+pub mod Digits
+pub mod Replacing
+pub mod Decimals
