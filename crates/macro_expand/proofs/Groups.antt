@@ -2,7 +2,7 @@
 use Rattle.std.proofs.Common.{◌≡◌, ℕ, Bool, true, false, List, refl, arith}
 use Rattle.std.specs.Prelude.{IsTrue, if◌then◌else◌}
 use Rattle.sil_macros.specs.declared.names.Macro.{Macro}
-use Rattle.sil_macros.specs.declared.names.Macro.TheVariants.{Acomp, Addlg, Adjust, Branch, Endex, Output, Push, Rewind}
+use Rattle.sil_macros.specs.declared.names.Macro.TheVariants.{Acomp, Addlg, Adjust, Apdsp, Branch, Endex, Output, Push, Rewind}
 use Rattle.sil_model.specs.declared.program.Arg.{Arg}
 use Rattle.sil_model.specs.declared.program.Specials.{Specials}
 use Rattle.sil_model.specs.Effects.{Effect}
@@ -13,6 +13,7 @@ use Rattle.choice_clauses.specs.ChoiceTable.{is_of_choice, choice_clause, choice
 use Rattle.flow_clauses.specs.FlowTable.{is_of_flow, flow_clause, flow_visits}
 use Rattle.unit_clauses.specs.UnitTable.{is_of_unit, unit_clause, unit_visits}
 use Rattle.spec_clauses.specs.SpecTable.{is_of_spec, spec_clause, spec_visits}
+use Rattle.string_clauses.specs.StringTable.{is_of_string, string_clause, string_visits}
 use Rattle.sil_runs.specs.Costs.{visits}
 use Rattle.sil_runs.specs.Table.{clause}
 use Rattle.sil_micro.specs.Codes.{MicroCode}
@@ -24,6 +25,7 @@ use Rattle.exp_flow.specs.Group.{is_flow}
 use Rattle.exp_stack.specs.Group.{is_stack}
 use Rattle.exp_units.specs.Group.{is_move, is_output}
 use Rattle.exp_units.specs.InFormats.{ExpandsIn}
+use Rattle.string_runtime.specs.Group.{is_string}
 use Rattle.exp_spec.specs.Group.{is_spec}
 
 -- ---- what is expanded in a group has its clause in the group's table, and in none before it
@@ -72,6 +74,13 @@ spec_of : (name : Macro) → IsTrue (is_spec name) → IsSpec name
 spec_of Addlg h = (refl, refl, refl, refl, refl)
 spec_of _ h = (grind arith, grind arith, grind arith, grind arith, grind arith)
 
+abbrev IsString : Macro → Type 0
+IsString name = (is_of_descr name ≡ false) × (is_of_choice name ≡ false) × (is_of_flow name ≡ false) × (is_of_unit name ≡ false) × (is_of_spec name ≡ false) × (is_of_string name ≡ true)
+
+string_of : (name : Macro) → IsTrue (is_string name) → IsString name
+string_of Apdsp h = (refl, refl, refl, refl, refl, refl)
+string_of _ h = (grind arith, grind arith, grind arith, grind arith, grind arith, grind arith)
+
 -- ---- so an expansion by the group's table is one by the table
 
 module _ {old new : MicroCode} {k : ℕ} {specials : Specials} {args : List Arg} {prints : Bool} where
@@ -116,6 +125,12 @@ module _ {old new : MicroCode} {k : ℕ} {specials : Specials} {args : List Arg}
       let e = spec_of name h in
       second (is_of_descr name) _ _ _ _ e.0 (second (is_of_choice name) _ _ _ _ e.1 (second (is_of_flow name) _ _ _ _ e.2 (second (is_of_unit name) _ _ _ _ e.3 (first (is_of_spec name) _ _ _ _ e.4 x))))
 
+  pub by_string : (name : Macro) → IsTrue (is_string name) → Expands old new k specials args (string_clause name) (string_visits name) prints → Expands old new k specials args (clause name) (visits name) prints
+  unfolding clause
+  by_string name h x =
+      let e = string_of name h in
+      second (is_of_descr name) _ _ _ _ e.0 (second (is_of_choice name) _ _ _ _ e.1 (second (is_of_flow name) _ _ _ _ e.2 (second (is_of_unit name) _ _ _ _ e.3 (second (is_of_spec name) _ _ _ _ e.4 (first (is_of_string name) _ _ _ _ e.5 x)))))
+
   -- of a statement that names a format
   first_in : (b : Bool) (c d : Site → State → Effect) (v w : Site → State → ℕ) → b ≡ true → ExpandsIn old new k specials args c v prints → ExpandsIn old new k specials args (if b then c else d) (if b then v else w) prints
   first_in true c d v w e x = x
@@ -131,4 +146,4 @@ module _ {old new : MicroCode} {k : ℕ} {specials : Specials} {args : List Arg}
       let e = output_of name h in
       second_in (is_of_descr name) _ _ _ _ e.0 (second_in (is_of_choice name) _ _ _ _ e.1 (second_in (is_of_flow name) _ _ _ _ e.2 (first_in (is_of_unit name) _ _ _ _ e.3 x)))
 
-pub ruleset groups = (by_descr, by_choice, by_flow, by_stack, by_control, by_move, by_spec)
+pub ruleset groups = (by_descr, by_choice, by_flow, by_stack, by_control, by_move, by_spec, by_string)

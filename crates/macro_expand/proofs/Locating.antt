@@ -2,6 +2,7 @@
 use Rattle.std.proofs.Common.{◌≡◌, ℕ, ◌<◌, ◌≤◌, ◌^◌, List, [], ◌∷◌, ◌++◌, Option, Some, None, length, length-append, subst, sym, ap, arith}
 use Rattle.std.proofs.lemmas.List.Elements.{All-head, All-tail}
 use Rattle.std.specs.Prelude.{All, IfSome, slice_get, slice_index_or, sum_by}
+use Rattle.layout_params.specs.Sizes.{Sizes, value_limit}
 use Rattle.layout_params.specs.Parameters.{Settings}
 use Rattle.std.proofs.lemmas.List.Sums.{sum_by-cons}
 use Rattle.sil_format.specs.FormatGrammar.{IsFormat}
@@ -52,6 +53,14 @@ specials_among program settings count h e =
       over = subst (λ n. IfSome program.specials.over (λ k. k < n)) (sym e) h.over;
       under = subst (λ n. IfSome program.specials.under (λ k. k < n)) (sym e) h.under;
     }
+
+-- the value of I is small
+small_value : (o : Option ℕ) (s : Sizes) → IfSome o (λ v. v ≤ value_limit s) → IfSome o (λ v. v < 2 ^ 63)
+small_value None s h = tt
+small_value (Some v) s h = omega (arith, h)
+
+pub small_code : (program : Program) (settings : Settings) → AreSpecials program settings → IfSome program.specials.int_code (λ v. v < 2 ^ 63)
+small_code program settings h = small_value program.specials.int_code settings.sizes h.int_code
 
 -- ---- formats
 

@@ -1,5 +1,5 @@
 // The expansion of all statements of a program.
-ghost use Rattle.std.specs.Prelude.{◌≡◌, ◌*◌, ◌<◌, ◌≤◌, ◌^◌, All, IfOk, OnOk, IsTrue, length, map};
+ghost use Rattle.std.specs.Prelude.{◌≡◌, ◌*◌, ◌<◌, ◌≤◌, ◌^◌, All, IfOk, IfSome, OnOk, IsTrue, length, map};
 ghost use Rattle.sil_macros.specs.MacroRows.{row};
 ghost use Rattle.flow_clauses.specs.CallClauses.{is_rcall};
 ghost use Rattle.sil_runs.specs.Costs.{visits};
@@ -30,6 +30,7 @@ use sil_micro::{Code, MAX_PIECE_WEIGHT, law_on_ways};
 use sil_model::{Program, Specials, Statement};
 use sil_runs::law_of_steps;
 use std::alloc::{AllocError, Global};
+use string_runtime::{expand_string, is_string};
 
 /// The code of a program: its runs are the program's runs, and each statement's operations weigh no
 /// more than the statement may cost.
@@ -69,6 +70,7 @@ fn expand(
     requires locations { All (LocatesWithin (length code.old.entries)) statement.now.args }
     requires items { All HasFewItems statement.now.args }
     requires among { AreAmong (length code.old.entries) specials.now }
+    requires value { IfSome specials.now.int_code (λ v. v < 2 ^ 63) }
     requires formats { All (HasFormat code.old.formats) statement.now.args }
     requires few_formats { length code.old.formats < 2 ^ 32 }
     requires number { at < length code.old.entries }
@@ -99,6 +101,7 @@ fn expand_here(
     requires locations { All (LocatesWithin (length code.old.entries)) statement.now.args }
     requires items { All HasFewItems statement.now.args }
     requires among { AreAmong (length code.old.entries) specials.now }
+    requires value { IfSome specials.now.int_code (λ v. v < 2 ^ 63) }
     requires formats { All (HasFormat code.old.formats) statement.now.args }
     requires few_formats { length code.old.formats < 2 ^ 32 }
     requires number { at < length code.old.entries }
@@ -127,6 +130,7 @@ fn expand_alone(
     requires locations { All (LocatesWithin (length code.old.entries)) statement.now.args }
     requires items { All HasFewItems statement.now.args }
     requires among { AreAmong (length code.old.entries) specials.now }
+    requires value { IfSome specials.now.int_code (λ v. v < 2 ^ 63) }
     requires number { at < length code.old.entries }
     requires few { length code.old.entries ≤ MAX_STATEMENTS }
     requires light { weights code.old.ops ≤ MAX_PIECE_WEIGHT * at }
@@ -144,6 +148,8 @@ fn expand_alone(
         expand_move(alloc, statement, at, specials, code)
     } else if is_spec(statement.name) {
         expand_spec(alloc, statement, at, specials, code)
+    } else if is_string(statement.name) {
+        expand_string(alloc, statement, at, specials, code)
     } else {
         expand_descr(alloc, statement, at, specials, code)
     }

@@ -1,7 +1,7 @@
 -- The macros that are installed so far are expanded.
 use Rattle.std.proofs.Common.{◌≡◌, true, refl}
 use Rattle.sil_macros.specs.declared.names.Macro.{Macro}
-use Rattle.sil_macros.specs.declared.names.Macro.TheVariants.{Acomp, Acompc, Addlg, Adjust, Adreal, Aeql, Aeqlc, Aeqlic, Bksize, Bkspce, Branch, Branic, Chkval, Decra, Deql, Divide, Dvreal, Endex, Enfile, Exreal, Fshrtn, Getac, Getd, Getdc, Getlg, Getlth, Getsiz, Getspc, Incra, Incrv, Init, Intrl, Istack, Lcomp, Leqlc, Link, Load, Locsp, Mnreal, Mnsint, Mova, Movd, Movdic, Movv, Mpreal, Mstime, Mult, Multc, Ordvst, Output, Pop, Proc, Pstack, Push, Putac, Putd, Putdc, Putlg, Putspc, Putvc, Rcall, Rcomp, Realst, Remsp, Resetf, Rewind, Rlint, Rrturn, Rsetfi, Sbreal, Selbra, Setac, Setav, Setf, Setfi, Setlc, Setsiz, Setsp, Setva, Setvc, Shortn, Spop, Spreal, Spush, Subsp, Subtrt, Sum, Testf, Testfi, Unload, Vcmpic, Veql, Veqlc}
+use Rattle.sil_macros.specs.declared.names.Macro.TheVariants.{Acomp, Acompc, Addlg, Adjust, Adreal, Aeql, Aeqlc, Aeqlic, Apdsp, Bksize, Bkspce, Branch, Branic, Chkval, Date, Decra, Deql, Divide, Dvreal, Endex, Enfile, Exreal, Fshrtn, Getac, Getbal, Getd, Getdc, Getlg, Getlth, Getsiz, Getspc, Incra, Incrv, Init, Intrl, Intspc, Istack, Lcomp, Leqlc, Lexcmp, Link, Load, Locsp, Mnreal, Mnsint, Mova, Movd, Movdic, Movv, Mpreal, Mstime, Mult, Multc, Ordvst, Output, Pop, Proc, Pstack, Push, Putac, Putd, Putdc, Putlg, Putspc, Putvc, Rcall, Rcomp, Realst, Remsp, Resetf, Rewind, Rlint, Rplace, Rrturn, Rsetfi, Sbreal, Selbra, Setac, Setav, Setf, Setfi, Setlc, Setsiz, Setsp, Setva, Setvc, Shortn, Spcint, Spop, Spreal, Spush, Subsp, Subtrt, Sum, Testf, Testfi, Trimsp, Unload, Varid, Vcmpic, Veql, Veqlc}
 use Rattle.sil_program.specs.Built.{is_built}
 use Rattle.macro_expand.specs.Expanded.{is_expanded}
 
@@ -15,11 +15,13 @@ built_is_expanded Adreal h = refl
 built_is_expanded Aeql h = refl
 built_is_expanded Aeqlc h = refl
 built_is_expanded Aeqlic h = refl
+built_is_expanded Apdsp h = refl
 built_is_expanded Bksize h = refl
 built_is_expanded Bkspce h = refl
 built_is_expanded Branch h = refl
 built_is_expanded Branic h = refl
 built_is_expanded Chkval h = refl
+built_is_expanded Date h = refl
 built_is_expanded Decra h = refl
 built_is_expanded Deql h = refl
 built_is_expanded Divide h = refl
@@ -29,6 +31,7 @@ built_is_expanded Enfile h = refl
 built_is_expanded Exreal h = refl
 built_is_expanded Fshrtn h = refl
 built_is_expanded Getac h = refl
+built_is_expanded Getbal h = refl
 built_is_expanded Getd h = refl
 built_is_expanded Getdc h = refl
 built_is_expanded Getlg h = refl
@@ -39,9 +42,11 @@ built_is_expanded Incra h = refl
 built_is_expanded Incrv h = refl
 built_is_expanded Init h = refl
 built_is_expanded Intrl h = refl
+built_is_expanded Intspc h = refl
 built_is_expanded Istack h = refl
 built_is_expanded Lcomp h = refl
 built_is_expanded Leqlc h = refl
+built_is_expanded Lexcmp h = refl
 built_is_expanded Link h = refl
 built_is_expanded Load h = refl
 built_is_expanded Locsp h = refl
@@ -74,6 +79,7 @@ built_is_expanded Remsp h = refl
 built_is_expanded Resetf h = refl
 built_is_expanded Rewind h = refl
 built_is_expanded Rlint h = refl
+built_is_expanded Rplace h = refl
 built_is_expanded Rrturn h = refl
 built_is_expanded Rsetfi h = refl
 built_is_expanded Sbreal h = refl
@@ -88,6 +94,7 @@ built_is_expanded Setsp h = refl
 built_is_expanded Setva h = refl
 built_is_expanded Setvc h = refl
 built_is_expanded Shortn h = refl
+built_is_expanded Spcint h = refl
 built_is_expanded Spop h = refl
 built_is_expanded Spreal h = refl
 built_is_expanded Spush h = refl
@@ -96,7 +103,9 @@ built_is_expanded Subtrt h = refl
 built_is_expanded Sum h = refl
 built_is_expanded Testf h = refl
 built_is_expanded Testfi h = refl
+built_is_expanded Trimsp h = refl
 built_is_expanded Unload h = refl
+built_is_expanded Varid h = refl
 built_is_expanded Vcmpic h = refl
 built_is_expanded Veql h = refl
 built_is_expanded Veqlc h = refl

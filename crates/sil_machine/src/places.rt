@@ -1,5 +1,5 @@
 // Where the machine's areas lie.
-ghost use Rattle.std.specs.Prelude.{◌≡◌, ◌≤◌};
+ghost use Rattle.std.specs.Prelude.{◌≡◌, ◌+◌, ◌*◌, ◌≤◌, pos};
 ghost use Rattle.layout_params.specs.Areas.{all_cells, hidden_cells};
 ghost use Rattle.flow_clauses.specs.FlowClauses.{first_dynamic, past_dynamic};
 ghost use Rattle.flow_clauses.specs.StackClauses.{last_cell};
@@ -15,6 +15,15 @@ fn hidden_cells(params: &Params) -> u64
 {
     let size = limits_of(params).cell_size;
     (20 + size - 1) / size
+}
+
+/// The address of the hidden buffer, which stands behind the static cells, by their number.
+pub fn hidden(params: &Params, statics: usize) -> i64
+    requires { all_cells params.now.settings statics ≤ MAX_CELLS }
+    ensures { result ≡ pos (FIRST_CELL + statics * params.now.settings.sizes.descr) }
+{
+    let size = limits_of(params).cell_size;
+    (FIRST_CELL + statics as u64 * size) as i64
 }
 
 /// The address of the first cell of dynamic storage, by the number of the static cells.

@@ -8,8 +8,9 @@ ghost use Rattle.flow_clauses.specs.FlowClauses.{first_dynamic, past_dynamic};
 ghost use Rattle.sil_model.specs.Sites.{site_of};
 ghost use Rattle.flow_clauses.specs.StackClauses.{bottom, summit};
 ghost use Rattle.sil_model.specs.WellFormed.{IsWellFormed};
+ghost use Rattle.string_clauses.specs.StringTable.{hidden_of};
 
-use crate::places::{first_dynamic, last_cell, past_dynamic};
+use crate::places::{first_dynamic, hidden, last_cell, past_dynamic};
 use layout_params::Params;
 use sil_base::{FIRST_ENTRY, MAX_LIST_ITEMS, MAX_STATEMENTS};
 use sil_macros::Macro;
@@ -94,6 +95,13 @@ impl<'p> Site<'p> {
         ensures { result ≡ self.now.program.specials }
     {
         self.program.specials
+    }
+
+    /// The address of the hidden buffer.
+    pub fn hidden(&self) -> i64
+        ensures { result ≡ hidden_of self.now }
+    {
+        hidden(self.params, self.program.cells.items().len())
     }
 
     /// The address of the first cell of dynamic storage.

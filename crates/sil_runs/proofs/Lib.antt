@@ -1,3 +1,4 @@
+pub mod MacroLaws
 pub mod ClauseLaws
 pub mod Alone
 pub mod Runs

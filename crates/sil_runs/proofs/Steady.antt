@@ -1,6 +1,7 @@
 -- A well formed program runs through valid states alone.
-use Rattle.std.proofs.Common.{◌≡◌, ℕ, zero, suc, ◌+◌, ◌-◌, ◌*◌, ◌%◌, ◌^◌, ◌≤◌, ◌<◌, ◌⊎◌, List, [], ◌∷◌, length, replicate, Some, None, refl, sym, subst, arith, length-append}
+use Rattle.std.proofs.Common.{◌≡◌, ℕ, zero, suc, ◌+◌, ◌-◌, ◌*◌, ◌%◌, ◌^◌, ◌≤◌, ◌<◌, ◌⊎◌, List, [], ◌∷◌, length, replicate, Some, None, refl, sym, ap, subst, arith, length-append}
 use Rattle.std.proofs.Math.IntN.{+ℤ_idr}
+use Rattle.std.proofs.Math.Nat.{mul_assoc}
 use Rattle.std.specs.Prelude.{slice_get, All, IsTrue, Bool, true, ◌&&◌, nat_le}
 use Rattle.std.specs.List.{list_all}
 use Rattle.std.proofs.lemmas.List.{length-replicate}
@@ -35,6 +36,7 @@ use Rattle.sil_runs.specs.StepLaws.{LawOfSteps}
 use Rattle.sil_model.specs.WellFormed.{IsWellFormed}
 use Rattle.sil_model.proofs.Fits.{start_fits}
 use Rattle.sil_runs.proofs.ClauseLaws.{lawful}
+use Rattle.sil_runs.proofs.MacroLaws.{at_start}
 use Rattle.sil_model.proofs.Keeps.{all_at}
 use Rattle.sil_model.proofs.Leaves.{IsHere, IsSound, IsRoomy, Leaves}
 
@@ -141,7 +143,7 @@ keeps : (program : Program) (parameters : Parameters) → IsWellFormed program p
 unfolding make_step
 keeps program parameters h statement s t is v few e =
     settles program parameters.settings s t _ few (slice_get_within program.statements s.statement statement is)
-    ((lawful statement.name).leaves (site_of program parameters s.statement statement) s (here program parameters h statement s is v few)) e
+    ((lawful statement.name).leaves (site_of program parameters s.statement statement) s h.legal (here program parameters h statement s is v few)) e
 
 -- ---- weights
 
@@ -179,18 +181,36 @@ count_most b (arg ∷ args) h =
     let rest : operand_count args ≤ 40 * length args = count_most b args (λ i d below. h (suc i) d (omega arith)) in
     omega arith
 
+-- a state with no step taken
+rested : (program : Program) (settings : Settings) (s : State) → IsValid program settings s → IsValid program settings (at_start s)
+rested program settings s v = record {
+  within = v.within;
+  memory = v.memory;
+  limits = v.limits;
+  cells = v.cells;
+  table_count = v.table_count;
+  tables = v.tables;
+  current = v.current;
+  previous = v.previous;
+  steps = omega arith;
+}
+
+all_bytes : (cells size descr : ℕ) → size ≡ descr → 4 * (cells * size) ≡ 4 * cells * descr
+all_bytes cells size descr e = rw e (sym (mul_assoc 4 cells descr))
+
 weighs : ((m : Macro) → with_number (number_of m) ≡ Some m) → (program : Program) (parameters : Parameters) → IsWellFormed program parameters.settings → (statement : Statement) (s : State) →
-    slice_get program.statements s.statement ≡ Some statement → weight program parameters statement s ≤ weight_limit parameters.settings (length s.memory.cells)
+    slice_get program.statements s.statement ≡ Some statement → IsValid program parameters.settings s → weight program parameters statement s ≤ weight_limit parameters.settings (length s.memory.cells)
 unfolding weight
-weighs placed program parameters h statement s is =
+weighs placed program parameters h statement s is v =
     let fits = all_at (FitsRow (bounds_of program parameters.settings)) program.statements s.statement statement h.rows is in
     let few : operand_count statement.args ≤ 240 = omega (arith, count_most (bounds_of program parameters.settings) statement.args fits.within, fit_length (row statement.name).places statement.args fits.shape, few_slots placed statement.name) in
-    let most = (lawful statement.name).few (site_of program parameters s.statement statement) s few in
-    omega arith
+    let most = (lawful statement.name).bounded (site_of program parameters s.statement statement) s few (here program parameters h statement (at_start s) is (rested program parameters.settings s v) (omega arith)) in
+    let bytes = all_bytes (length s.memory.cells) s.memory.limits.cell_size parameters.settings.sizes.descr (ap (λ l. l.cell_size) v.limits) in
+    omega (arith, most, bytes)
 
 pub steady : ((m : Macro) → with_number (number_of m) ≡ Some m) → LawOfSteps
 steady placed program parameters h = record {
   start = starts program parameters.settings h;
   keeps = keeps program parameters h;
-  bound = λ statement s is v. weighs placed program parameters h statement s is;
+  bound = λ statement s is v. weighs placed program parameters h statement s is v;
 }

@@ -9,7 +9,8 @@ use Rattle.choice_clauses.specs.ChoiceTable.{is_of_choice, choice_clause}
 use Rattle.flow_clauses.specs.FlowTable.{is_of_flow, flow_clause}
 use Rattle.unit_clauses.specs.UnitTable.{is_of_unit, unit_clause}
 use Rattle.spec_clauses.specs.SpecTable.{is_of_spec, spec_clause}
+use Rattle.string_clauses.specs.StringTable.{is_of_string, string_clause}
 
 -- the clause of a macro is that of its group
 unfoldable pub clause : Macro → Site → State → Effect
-clause name = if is_of_descr name then descr_clause name else (if is_of_choice name then choice_clause name else (if is_of_flow name then flow_clause name else (if is_of_unit name then unit_clause name else (if is_of_spec name then spec_clause name else not_built))))
+clause name = if is_of_descr name then descr_clause name else (if is_of_choice name then choice_clause name else (if is_of_flow name then flow_clause name else (if is_of_unit name then unit_clause name else (if is_of_spec name then spec_clause name else (if is_of_string name then string_clause name else not_built)))))

@@ -1,7 +1,7 @@
 use Rattle.std.proofs.Common.{◌≡◌, length, ap, arith, subst}
 use Rattle.macro_expand.proofs.Costs.{makes_step}
 use Rattle.macro_expand.proofs.Growing.{statement_at, SoFar}
-use Rattle.macro_expand.proofs.Locating.{few_formats, few_items, formats_there, located, specials_among}
+use Rattle.macro_expand.proofs.Locating.{few_formats, few_items, formats_there, located, small_code, specials_among}
 use Rattle.macro_expand.proofs.Running.{runs_to}
 use Rattle.macro_expand.proofs.Stepping.{step}
 use Rattle.macro_expand.proofs.Whole.{whole}
@@ -19,6 +19,9 @@ expand-requires-clause-items c =
 
 pub expand-requires-clause-among : goal.expand-requires-clause-among
 expand-requires-clause-among c = specials_among c.args.program.now c.args.params.now.settings (length c.loop-k.code.entries) c.requires.well_formed.specials c.loop-k.invariant.statements
+
+pub expand-requires-clause-value : goal.expand-requires-clause-value
+expand-requires-clause-value c = small_code c.args.program.now c.args.params.now.settings c.requires.well_formed.specials
 
 pub expand-requires-clause-formats : goal.expand-requires-clause-formats
 expand-requires-clause-formats c =

@@ -1,7 +1,7 @@
 use Rattle.std.proofs.Common.{◌≡◌, None, refl}
 use Rattle.std.specs.Prelude.{false}
 use Rattle.sil_macros.specs.declared.names.Macro.{Macro}
-use Rattle.sil_macros.specs.declared.names.Macro.TheVariants.{Acomp, Acompc, Addlg, Adjust, Adreal, Aeql, Aeqlc, Aeqlic, Bksize, Bkspce, Branch, Branic, Chkval, Decra, Deql, Divide, Dvreal, Endex, Enfile, Exreal, Fshrtn, Getac, Getd, Getdc, Getlg, Getlth, Getsiz, Getspc, Incra, Incrv, Init, Intrl, Istack, Lcomp, Leqlc, Link, Load, Locsp, Mnreal, Mnsint, Mova, Movd, Movdic, Movv, Mpreal, Mstime, Mult, Multc, Ordvst, Output, Pop, Proc, Pstack, Push, Putac, Putd, Putdc, Putlg, Putspc, Putvc, Rcall, Rcomp, Realst, Remsp, Resetf, Rewind, Rlint, Rrturn, Rsetfi, Sbreal, Selbra, Setac, Setav, Setf, Setfi, Setlc, Setsiz, Setsp, Setva, Setvc, Shortn, Spop, Spreal, Spush, Subsp, Subtrt, Sum, Testf, Testfi, Unload, Vcmpic, Veql, Veqlc}
+use Rattle.sil_macros.specs.declared.names.Macro.TheVariants.{Acomp, Acompc, Addlg, Adjust, Adreal, Aeql, Aeqlc, Aeqlic, Apdsp, Bksize, Bkspce, Branch, Branic, Chkval, Date, Decra, Deql, Divide, Dvreal, Endex, Enfile, Exreal, Fshrtn, Getac, Getbal, Getd, Getdc, Getlg, Getlth, Getsiz, Getspc, Incra, Incrv, Init, Intrl, Intspc, Istack, Lcomp, Leqlc, Lexcmp, Link, Load, Locsp, Mnreal, Mnsint, Mova, Movd, Movdic, Movv, Mpreal, Mstime, Mult, Multc, Ordvst, Output, Pop, Proc, Pstack, Push, Putac, Putd, Putdc, Putlg, Putspc, Putvc, Rcall, Rcomp, Realst, Remsp, Resetf, Rewind, Rlint, Rplace, Rrturn, Rsetfi, Sbreal, Selbra, Setac, Setav, Setf, Setfi, Setlc, Setsiz, Setsp, Setva, Setvc, Shortn, Spcint, Spop, Spreal, Spush, Subsp, Subtrt, Sum, Testf, Testfi, Trimsp, Unload, Varid, Vcmpic, Veql, Veqlc}
 use Rattle.sil_model.specs.UnitMacros.{calls_unit}
 use Rattle.sil_runs.specs.Table.{clause}
 use Rattle.sil_machine.specs.MachineParts.{state_of}
@@ -21,11 +21,13 @@ returns-in_default c k tapes = go c.args.name refl c.requires.alone
     go Aeql e h = absurd (c.in_default.not-Aeql e)
     go Aeqlc e h = absurd (c.in_default.not-Aeqlc e)
     go Aeqlic e h = absurd (c.in_default.not-Aeqlic e)
+    go Apdsp e h = absurd (c.in_default.not-Apdsp e)
     go Bksize e h = absurd (c.in_default.not-Bksize e)
     go Bkspce e h = cc
     go Branch e h = absurd (c.in_default.not-Branch e)
     go Branic e h = absurd (c.in_default.not-Branic e)
     go Chkval e h = absurd (c.in_default.not-Chkval e)
+    go Date e h = absurd (c.in_default.not-Date e)
     go Decra e h = absurd (c.in_default.not-Decra e)
     go Deql e h = absurd (c.in_default.not-Deql e)
     go Divide e h = absurd (c.in_default.not-Divide e)
@@ -35,6 +37,7 @@ returns-in_default c k tapes = go c.args.name refl c.requires.alone
     go Exreal e h = absurd (c.in_default.not-Exreal e)
     go Fshrtn e h = absurd (c.in_default.not-Fshrtn e)
     go Getac e h = absurd (c.in_default.not-Getac e)
+    go Getbal e h = absurd (c.in_default.not-Getbal e)
     go Getd e h = absurd (c.in_default.not-Getd e)
     go Getdc e h = absurd (c.in_default.not-Getdc e)
     go Getlg e h = absurd (c.in_default.not-Getlg e)
@@ -45,9 +48,11 @@ returns-in_default c k tapes = go c.args.name refl c.requires.alone
     go Incrv e h = absurd (c.in_default.not-Incrv e)
     go Init e h = absurd (c.in_default.not-Init e)
     go Intrl e h = absurd (c.in_default.not-Intrl e)
+    go Intspc e h = absurd (c.in_default.not-Intspc e)
     go Istack e h = absurd (c.in_default.not-Istack e)
     go Lcomp e h = absurd (c.in_default.not-Lcomp e)
     go Leqlc e h = absurd (c.in_default.not-Leqlc e)
+    go Lexcmp e h = absurd (c.in_default.not-Lexcmp e)
     go Link e h = absurd (c.in_default.not-Link e)
     go Load e h = absurd (c.in_default.not-Load e)
     go Locsp e h = absurd (c.in_default.not-Locsp e)
@@ -80,6 +85,7 @@ returns-in_default c k tapes = go c.args.name refl c.requires.alone
     go Resetf e h = absurd (c.in_default.not-Resetf e)
     go Rewind e h = cc
     go Rlint e h = absurd (c.in_default.not-Rlint e)
+    go Rplace e h = absurd (c.in_default.not-Rplace e)
     go Rrturn e h = absurd (c.in_default.not-Rrturn e)
     go Rsetfi e h = absurd (c.in_default.not-Rsetfi e)
     go Sbreal e h = absurd (c.in_default.not-Sbreal e)
@@ -94,6 +100,7 @@ returns-in_default c k tapes = go c.args.name refl c.requires.alone
     go Setva e h = absurd (c.in_default.not-Setva e)
     go Setvc e h = absurd (c.in_default.not-Setvc e)
     go Shortn e h = absurd (c.in_default.not-Shortn e)
+    go Spcint e h = absurd (c.in_default.not-Spcint e)
     go Spop e h = absurd (c.in_default.not-Spop e)
     go Spreal e h = absurd (c.in_default.not-Spreal e)
     go Spush e h = absurd (c.in_default.not-Spush e)
@@ -102,7 +109,9 @@ returns-in_default c k tapes = go c.args.name refl c.requires.alone
     go Sum e h = absurd (c.in_default.not-Sum e)
     go Testf e h = absurd (c.in_default.not-Testf e)
     go Testfi e h = absurd (c.in_default.not-Testfi e)
+    go Trimsp e h = absurd (c.in_default.not-Trimsp e)
     go Unload e h = absurd (c.in_default.not-Unload e)
+    go Varid e h = absurd (c.in_default.not-Varid e)
     go Vcmpic e h = absurd (c.in_default.not-Vcmpic e)
     go Veql e h = absurd (c.in_default.not-Veql e)
     go Veqlc e h = absurd (c.in_default.not-Veqlc e)
