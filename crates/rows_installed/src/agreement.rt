@@ -19,8 +19,8 @@ static ORDERS: [[usize; 3]; 6] = [
 /// The widths of A, F and V.
 static WIDTHS: [[u64; 3]; 3] = [[8, 1, 2], [8, 2, 4], [8, 4, 8]];
 
-/// Lines of a source over two descriptors, an array and a buffer, with L and M as locations.
-static LINES: [&[u8]; 64] = [
+/// Lines of a source over two descriptors, an array, a buffer and specifiers, with L and M as locations.
+static LINES: [&[u8]; 128] = [
     b" ENDEX A\n",
     b" ENDEX B\n",
     b" INCRA A,7\n",
@@ -85,6 +85,70 @@ static LINES: [&[u8]; 64] = [
     b" MULTC B,A,3\n",
     b" SUBTRT A,B,C,L,\n",
     b" SUM C,A,B,L,M\n",
+    b" ADDLG S,A\n",
+    b" ADDLG T,C\n",
+    b" BKSIZE A,B\n",
+    b" BKSIZE C,A\n",
+    b" FSHRTN S,1\n",
+    b" FSHRTN T,2\n",
+    b" GETLG A,S\n",
+    b" GETLG B,T\n",
+    b" GETLTH A,B\n",
+    b" GETLTH C,A\n",
+    b" GETSPC S,B,0\n",
+    b" GETSPC T,B,DESCR\n",
+    b" LOCSP S,B\n",
+    b" LOCSP T,C\n",
+    b" PUTLG S,A\n",
+    b" PUTLG T,C\n",
+    b" PUTSPC B,0,S\n",
+    b" PUTSPC B,DESCR,T\n",
+    b" REMSP S,T,S\n",
+    b" REMSP T,T,S\n",
+    b" SETLC S,3\n",
+    b" SETLC T,7\n",
+    b" SETSP S,T\n",
+    b" SETSP S+DESCR,T\n",
+    b" SHORTN T,1\n",
+    b" SHORTN S,6\n",
+    b" SUBSP S,T,U,L,M\n",
+    b" SUBSP T,S,U,M,L\n",
+    b" APDSP T,U\n",
+    b" APDSP T,T\n",
+    b" APDSP S,T\n",
+    b" APDSP V,U\n",
+    b" DATE S\n",
+    b" DATE T\n",
+    b" DATE B\n",
+    b" DATE D\n",
+    b" GETBAL T,A,L,M\n",
+    b" GETBAL V,A,M,L\n",
+    b" GETBAL U,B,L,M\n",
+    b" GETBAL S,A,L,M\n",
+    b" INTSPC T,A\n",
+    b" INTSPC S,B\n",
+    b" INTSPC T,C\n",
+    b" INTSPC V,A\n",
+    b" LEXCMP T,U,L,,M\n",
+    b" LEXCMP U,T,M,L\n",
+    b" LEXCMP V,V,L,M,L\n",
+    b" LEXCMP S,T,L,M\n",
+    b" RPLACE T,U,U\n",
+    b" RPLACE V,U,T\n",
+    b" RPLACE U,V,V\n",
+    b" RPLACE T,S,S\n",
+    b" SPCINT A,T,L,M\n",
+    b" SPCINT B,V,L,M\n",
+    b" SPCINT A,U,M,L\n",
+    b" SPCINT C,S,L\n",
+    b" TRIMSP T,U\n",
+    b" TRIMSP S,T\n",
+    b" TRIMSP V,V\n",
+    b" TRIMSP U,S\n",
+    b" VARID A,T\n",
+    b" VARID B,U\n",
+    b" VARID C,V\n",
+    b" VARID A,S\n",
 ];
 
 /// The next number of a seed.
@@ -117,7 +181,7 @@ fn sizes_of(descr: u64, order: &[usize; 3], widths: &[u64; 3]) -> Option<Sizes> 
 
 /// What each source ends with.
 const LAST: &[u8] =
-    b"L ENDEX A\nM ENDEX B\nA DESCR 4,3,2\nB DESCR C,8,1\nC ARRAY 2\nD BUFFER 1\nS SPEC A,0,1,2,5\n DESCR\n END\n";
+    b"L ENDEX A\nM ENDEX B\nA DESCR 4,3,2\nB DESCR C,8,1\nC ARRAY 2\nD BUFFER 1\nS SPEC A,0,1,2,5\n DESCR\nT SPEC D,0,3,1,6\nU STRING 'AB 12(C)  '\nV STRING '-45'\nI EQU 3\n END\n";
 
 /// Up to seven statements, and two more.
 fn source_of(alloc: Global, seed: u64) -> Result<Vec<u8>, AllocError> {
@@ -125,7 +189,7 @@ fn source_of(alloc: Global, seed: u64) -> Result<Vec<u8>, AllocError> {
     let mut now = next(seed);
     for _ in 0..now >> 61 {
         now = next(now);
-        source.extend_from_slice(LINES[(now >> 58) as usize])?;
+        source.extend_from_slice(LINES[(now >> 57) as usize])?;
     }
     source.extend_from_slice(LAST)?;
     Ok(source)
