@@ -1,0 +1,5 @@
+mod LoopLaws
+mod Since
+mod NodeLaws
+mod PatternLaws
+pub mod TreeLaws

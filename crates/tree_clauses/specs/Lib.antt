@@ -1,0 +1,4 @@
+pub mod Loops
+pub mod TreeClauses
+pub mod PatternClauses
+pub mod TreeTable
