@@ -8,7 +8,7 @@ ghost use Rattle.sil_macros.specs.declared.names.Macro.TheVariants.{Acomp, Acomp
 ghost use Rattle.sil_micro.specs.Expands.{Expands};
 ghost use Rattle.exp_common.specs.Locations.{LocatesWithin};
 
-use crate::locations::{ByAnswer, ByOrder};
+use exp_common::{ByAnswer, ByOrder};
 use sil_base::MAX_STATEMENTS;
 use sil_micro::{Code, op};
 use sil_model::Specials;

@@ -4,7 +4,6 @@
 mod comparisons;
 mod expansion;
 mod integers;
-mod locations;
 mod operands;
 
 pub use expansion::{expand_choice, is_choice};

@@ -4,7 +4,7 @@ ghost use Rattle.sil_macros.specs.OperandPlaces.{D, F, L, N, S};
 ghost use Rattle.sil_model.specs.Fits.{fit};
 ghost use Rattle.sil_model.specs.declared.program.Arg.TheVariants.{Flag, Goto, Number, Place};
 
-use crate::locations::{ByAnswer, ByOrder};
+use exp_common::{ByAnswer, ByOrder};
 use sil_model::Arg;
 
 pub(crate) fn places_order(args: &[Arg]) -> (i64, i64, ByOrder)

@@ -2,3 +2,4 @@ pub mod FlagBits
 pub mod JoinedParts
 pub mod Leads
 pub mod Questions
+pub mod TitleFlags

@@ -4,4 +4,4 @@
 
 mod locations;
 
-pub use locations::lead;
+pub use locations::{ByAnswer, ByOrder, lead};

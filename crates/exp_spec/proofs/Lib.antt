@@ -3,5 +3,4 @@ mod LengthFields
 mod SpecWrites
 mod SizeWrites
 mod SpecHeads
-mod TitleFlag
 mod ZeroAddresses

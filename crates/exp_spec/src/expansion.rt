@@ -13,7 +13,7 @@ use crate::blocks::{bksize, getlth};
 use crate::lengths::{addlg, fshrtn, getlg, putlg, setlc, shortn};
 use crate::operands::{
     descr_number_spec, descr_spec, spec_descr, spec_descr_number, spec_number, three_specs,
-    three_specs_outcomes, two_descrs, two_specs,
+    three_specs_answer, two_descrs, two_specs,
 };
 use crate::specifiers::{getspc, locsp, putspc, remsp, setsp, subsp};
 use sil_base::MAX_STATEMENTS;
@@ -120,7 +120,7 @@ pub fn expand_spec(
             shortn(code, at, specials, s, n)
         }
         Macro::Subsp => {
-            let (s1, s2, s3, to) = three_specs_outcomes(args);
+            let (s1, s2, s3, to) = three_specs_answer(args);
             subsp(code, at, specials, s1, s2, s3, to)
         }
         _ => unreachable!(),

@@ -4,7 +4,6 @@
 mod blocks;
 mod expansion;
 mod lengths;
-mod locations;
 mod operands;
 mod specifiers;
 mod writes;

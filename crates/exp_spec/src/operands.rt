@@ -4,7 +4,7 @@ ghost use Rattle.sil_macros.specs.OperandPlaces.{D, L, N, S};
 ghost use Rattle.sil_model.specs.Fits.{fit};
 ghost use Rattle.sil_model.specs.declared.program.Arg.TheVariants.{Goto, Number, Place};
 
-use crate::locations::Outcomes;
+use exp_common::ByAnswer;
 use sil_model::Arg;
 
 pub(crate) fn spec_descr(args: &[Arg]) -> (i64, i64)
@@ -87,7 +87,7 @@ pub(crate) fn three_specs(args: &[Arg]) -> (i64, i64, i64)
     }
 }
 
-pub(crate) fn three_specs_outcomes(args: &[Arg]) -> (i64, i64, i64, Outcomes)
+pub(crate) fn three_specs_answer(args: &[Arg]) -> (i64, i64, i64, ByAnswer)
     requires { IsTrue (fit (S ∷ S ∷ S ∷ L ∷ L ∷ []) args.now) }
     ensures { args.now ≡ Place result.0 ∷ Place result.1 ∷ Place result.2 ∷ Goto result.3.failure ∷ Goto result.3.success ∷ [] }
 {
@@ -96,17 +96,9 @@ pub(crate) fn three_specs_outcomes(args: &[Arg]) -> (i64, i64, i64, Outcomes)
             Arg::Place(x1),
             Arg::Place(x2),
             Arg::Place(x3),
-            Arg::Goto(failure),
-            Arg::Goto(success),
-        ] => (
-            *x1,
-            *x2,
-            *x3,
-            Outcomes {
-                failure: *failure,
-                success: *success,
-            },
-        ),
+            Arg::Goto(no),
+            Arg::Goto(yes),
+        ] => (*x1, *x2, *x3, ByAnswer { no: *no, yes: *yes }),
         _ => unreachable!(),
     }
 }

@@ -8,8 +8,8 @@ ghost use Rattle.sil_model.specs.declared.program.Arg.TheVariants.{Goto, Number,
 ghost use Rattle.sil_micro.specs.Expands.{Expands};
 ghost use Rattle.exp_common.specs.Locations.{LocatesWithin};
 
-use crate::locations::Outcomes;
 use crate::writes::{append_write, append_write_to};
+use exp_common::ByAnswer;
 use sil_base::MAX_STATEMENTS;
 use sil_micro::{Code, op};
 use sil_model::Specials;
@@ -184,13 +184,13 @@ pub fn subsp(
     s1: i64,
     s2: i64,
     s3: i64,
-    to: Outcomes,
+    to: ByAnswer,
 ) -> Result<(), AllocError>
     requires statement { k < length code.old.entries }
     requires few { length code.old.entries ≤ MAX_STATEMENTS }
-    requires within { All (LocatesWithin (length code.old.entries)) (Place s1 ∷ Place s2 ∷ Place s3 ∷ Goto to.failure ∷ Goto to.success ∷ []) }
+    requires within { All (LocatesWithin (length code.old.entries)) (Place s1 ∷ Place s2 ∷ Place s3 ∷ Goto to.no ∷ Goto to.yes ∷ []) }
     requires room { length code.old.ops + 1500 < 2 ^ 32 }
-    ensures { OnOk result (Expands code.old code.new k specials.now (Place s1 ∷ Place s2 ∷ Place s3 ∷ Goto to.failure ∷ Goto to.success ∷ []) (on_memory subsp) (spec_visits Subsp) false) }
+    ensures { OnOk result (Expands code.old code.new k specials.now (Place s1 ∷ Place s2 ∷ Place s3 ∷ Goto to.no ∷ Goto to.yes ∷ []) (on_memory subsp) (spec_visits Subsp) false) }
 {
     let (failure, success) = to.statements(k);
     code.begin_statement(k);

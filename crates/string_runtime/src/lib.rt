@@ -4,7 +4,6 @@
 mod copies;
 mod expansion;
 mod integers;
-mod locations;
 mod operands;
 mod parts;
 mod scans;

@@ -4,7 +4,7 @@ ghost use Rattle.sil_macros.specs.OperandPlaces.{D, L, S};
 ghost use Rattle.sil_model.specs.Fits.{fit};
 ghost use Rattle.sil_model.specs.declared.program.Arg.TheVariants.{Goto, Place};
 
-use crate::locations::{ByAnswer, ByOrder};
+use exp_common::{ByAnswer, ByOrder};
 use sil_model::Arg;
 
 pub(crate) fn one_spec(args: &[Arg]) -> i64

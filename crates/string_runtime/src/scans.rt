@@ -6,7 +6,7 @@ ghost use Rattle.sil_model.specs.declared.program.Arg.TheVariants.{Goto, Place};
 ghost use Rattle.sil_micro.specs.Expands.{Expands};
 ghost use Rattle.exp_common.specs.Locations.{LocatesWithin};
 
-use crate::locations::{ByAnswer, ByOrder};
+use exp_common::{ByAnswer, ByOrder};
 use crate::parts::{
     append_copy_first, append_copy_length, append_first, append_length, append_shorter,
     append_start,

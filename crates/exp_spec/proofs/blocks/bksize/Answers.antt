@@ -14,7 +14,7 @@ use Rattle.exp_spec.specs.SpecParts.{size_code}
 use Rattle.exp_spec.proofs.Sizes.{by_size, with_cell}
 use Rattle.exp_spec.proofs.SizeWrites.{size_goes, size_part}
 use Rattle.exp_spec.proofs.SpecHeads.{bksize_first, bksize_head}
-use Rattle.exp_spec.proofs.TitleFlag.{title_small}
+use Rattle.exp_common.proofs.TitleFlags.{string_title_small}
 use Rattle.exp_spec.proofs.blocks.bksize.Goals as goal
 use mir.Val.{SFits}
 use mir.Syntax.{w64}
@@ -38,7 +38,7 @@ returns c =
           let settings = ap (λ (s : Settings). s.string_title_flag) h.setting.settings in
           by_read m c.args.d2 valid (λ none. record { fuel = 23; meets = simp (h.left, none) (refl, refl, lit≤ tt) }) (λ a1 f1 v1 is1 read1.
           by_read m a1 valid (λ none. record { fuel = 23; meets = simp (h.left, is1, none) (refl, refl, lit≤ tt) }) (λ a f v is read.
-          let bits = both_flags f flag read.flags (title_small parameters.settings h.setting.well_formed.legal) in
+          let bits = both_flags f flag read.flags (string_title_small parameters.settings h.setting.well_formed.legal) in
           by_test (bit_and f flag == flag)
           (λ has. by_size size 4 (pos v) valid.limits.least valid.limits.most (omega arith) (omega (arith, read.value))
           (λ below sized.

@@ -26,14 +26,14 @@ returns c =
     let f_s3 : SFits w64 c.args.s3 = c.ranges.s3 in
     let to = c.statements-failure.ensures in
     let among = lead_within (length c.args.code.now.entries) c.args.k in
-    let w0 = among c.args.to.failure c.requires.statement (c.requires.within 3 Absent (lit≤ tt)) in
-    let tail = simp to.success at c.in_ok-append_write_to.ensures.grown in
-    let w1 = among c.args.to.success c.requires.statement (c.requires.within 4 Absent (lit≤ tt)) in
-    let head = simp (to_z-of_z, to.failure) at c.in_ok-append.ensures.appends in
+    let w0 = among c.args.to.no c.requires.statement (c.requires.within 3 Absent (lit≤ tt)) in
+    let tail = simp to.yes at c.in_ok-append_write_to.ensures.grown in
+    let w1 = among c.args.to.yes c.requires.statement (c.requires.within 4 Absent (lit≤ tt)) in
+    let head = simp (to_z-of_z, to.no) at c.in_ok-append.ensures.appends in
     record {
-      piece = joined (subsp_head c.args.k c.args.s1 c.args.s2 c.args.s3 (lead c.args.k c.args.to.failure)) (write_to_code (lead c.args.k c.args.to.success));
-      stands = grows_from _ _ _ _ c.begin_statement.ensures (grows_then _ _ _ (subsp_head c.args.k c.args.s1 c.args.s2 c.args.s3 (lead c.args.k c.args.to.failure)) (write_to_code (lead c.args.k c.args.to.success)) head tail);
-      is_piece = whole_piece (subsp_first c.args.k _ _ c.args.s1 c.args.s2 c.args.s3 (lead c.args.k c.args.to.failure) w0) (write_to_part _ _ (lead c.args.k c.args.to.success) w1) (lit≤ tt);
+      piece = joined (subsp_head c.args.k c.args.s1 c.args.s2 c.args.s3 (lead c.args.k c.args.to.no)) (write_to_code (lead c.args.k c.args.to.yes));
+      stands = grows_from _ _ _ _ c.begin_statement.ensures (grows_then _ _ _ (subsp_head c.args.k c.args.s1 c.args.s2 c.args.s3 (lead c.args.k c.args.to.no)) (write_to_code (lead c.args.k c.args.to.yes)) head tail);
+      is_piece = whole_piece (subsp_first c.args.k _ _ c.args.s1 c.args.s2 c.args.s3 (lead c.args.k c.args.to.no) w0) (write_to_part _ _ (lead c.args.k c.args.to.yes) w1) (lit≤ tt);
       does = λ g program parameters u h.
           let m = u.state.memory in
           let valid = h.valid.memory in
@@ -42,7 +42,7 @@ returns c =
           by_read m (c.args.s3 ⊞ d) valid (λ none. record { fuel = 16; meets = simp (h.left, is1, none) (refl, refl, lit≤ tt) }) (λ o f2 most is2 read2.
           by_test (nat_lt most l) (λ less. record { fuel = 16; meets = simp (h.left, is1, is2, less, goes_to) (refl, lit≤ tt) }) (λ enough.
           by_read m c.args.s3 valid (λ none. record { fuel = 16; meets = simp (h.left, is1, is2, enough, none) (refl, refl, lit≤ tt) }) (λ a f v is read.
-          by_way (then_part (subsp_head c.args.k c.args.s1 c.args.s2 c.args.s3 (lead c.args.k c.args.to.failure)) (write_to_inside (lead c.args.k c.args.to.success)) (omega arith)
-          (write_to_goes g (at c.args.k u.state) u.failed u.scratch (record u.registers { r8 = pos most; r9 = c.args.s3 ⊞ d }) 6400 c.args.s1 a f v (o) (pos l) 252 read.f_again read.v_again (lit≤ tt) c.args.to.success (Some l) read1.v_again))
+          by_way (then_part (subsp_head c.args.k c.args.s1 c.args.s2 c.args.s3 (lead c.args.k c.args.to.no)) (write_to_inside (lead c.args.k c.args.to.yes)) (omega arith)
+          (write_to_goes g (at c.args.k u.state) u.failed u.scratch (record u.registers { r8 = pos most; r9 = c.args.s3 ⊞ d }) 6400 c.args.s1 a f v (o) (pos l) 252 read.f_again read.v_again (lit≤ tt) c.args.to.yes (Some l) read1.v_again))
           (λ fuel y. record { fuel = more 14 fuel; meets = simp (h.left, is1, is2, enough, is) y })))));
     }
