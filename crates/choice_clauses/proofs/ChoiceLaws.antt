@@ -5,7 +5,7 @@ use Rattle.sil_macros.specs.declared.names.Macro.{Macro}
 use Rattle.sil_model.specs.UnitMacros.{KeepsTapes}
 use Rattle.sil_model.proofs.Keeps.{fits_descr_at, keeps_here, keeps_read, keeps_write, writes_set_descr}
 use Rattle.sil_model.proofs.Operands.{fits_product_alone, goto_leads, range_fits}
-use Rattle.sil_model.proofs.Lawful.{IsLawful, KeepsMemory, on_memory_lawful}
+use Rattle.sil_model.proofs.Lawful.{IsLawful, KeepsMemory, few_lawful, on_memory_lawful}
 use Rattle.sil_model.proofs.Leaves.{Leaves}
 use Rattle.choice_clauses.specs.ComparisonClauses.{acomp, acompc, aeql, aeqlc, aeqlic, chkval, deql, lcomp, leqlc, testf, testfi, vcmpic, veql, veqlc}
 use Rattle.choice_clauses.specs.IntegerClauses.{divide, mnsint, mult, multc, subtrt, sum}
@@ -114,4 +114,4 @@ choice_lawful Testfi = on_memory_lawful Testfi testfi refl testfi_keeps (λ site
 choice_lawful Vcmpic = on_memory_lawful Vcmpic vcmpic refl vcmpic_keeps (λ site s h. omega arith)
 choice_lawful Veql = on_memory_lawful Veql veql refl veql_keeps (λ site s h. omega arith)
 choice_lawful Veqlc = on_memory_lawful Veqlc veqlc refl veqlc_keeps (λ site s h. omega arith)
-choice_lawful _ = record { leaves = λ site s h. tt; alone = λ site s h. tt; few = λ site s h. omega arith }
+choice_lawful name = few_lawful name (λ site s h. tt) (λ site s h. tt) (λ site s h. omega arith)

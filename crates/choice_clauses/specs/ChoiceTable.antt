@@ -2,7 +2,7 @@
 use Rattle.std.specs.Prelude.{ℕ, Bool, true, false}
 use Rattle.sil_macros.specs.declared.names.Macro.{Macro}
 use Rattle.sil_macros.specs.declared.names.Macro.TheVariants.{Acomp, Acompc, Aeql, Aeqlc, Aeqlic, Chkval, Deql, Divide, Lcomp, Leqlc, Mnsint, Mult, Multc, Subtrt, Sum, Testf, Testfi, Vcmpic, Veql, Veqlc}
-use Rattle.sil_model.specs.Effects.{Effect, on_memory, not_built}
+use Rattle.sil_model.specs.Effects.{Effect, on_memory, no_clause}
 use Rattle.sil_model.specs.Sites.{Site}
 use Rattle.sil_model.specs.States.{State}
 use Rattle.choice_clauses.specs.ComparisonClauses.{acomp, acompc, aeql, aeqlc, aeqlic, chkval, deql, lcomp, leqlc, testf, testfi, vcmpic, veql, veqlc}
@@ -53,7 +53,7 @@ choice_clause Testfi = on_memory testfi
 choice_clause Vcmpic = on_memory vcmpic
 choice_clause Veql = on_memory veql
 choice_clause Veqlc = on_memory veqlc
-choice_clause _ = not_built
+choice_clause _ = no_clause
 
 -- the visits that a clause makes to cells, characters, table entries and links
 abbrev pub choice_visits : Macro → Site → State → ℕ

@@ -5,7 +5,7 @@ use Rattle.sil_macros.specs.declared.names.Macro.{Macro}
 use Rattle.sil_model.specs.UnitMacros.{KeepsTapes}
 use Rattle.sil_model.proofs.Keeps.{fits_descr_at, keeps_read, keeps_write, sum_fits, writes_set_a, writes_set_descr, writes_set_f, writes_set_v}
 use Rattle.sil_model.proofs.Operands.{difference_fits, fits_a_at, fits_value_alone, number_fits}
-use Rattle.sil_model.proofs.Lawful.{IsLawful, KeepsMemory, on_memory_lawful}
+use Rattle.sil_model.proofs.Lawful.{IsLawful, KeepsMemory, few_lawful, on_memory_lawful}
 use Rattle.sil_model.proofs.Leaves.{Leaves}
 use Rattle.descr_clauses.specs.DescriptorClauses.{adjust, decra, getac, getd, getdc, getsiz, incra, incrv, mova, movd, movdic, movv, putac, putd, putdc, putvc, resetf, rsetfi, setac, setav, setf, setfi, setsiz, setva, setvc}
 use Rattle.descr_clauses.specs.DescrTable.{descr_clause, descr_visits}
@@ -137,4 +137,4 @@ descr_lawful Setfi = on_memory_lawful Setfi setfi refl setfi_keeps (λ site s h.
 descr_lawful Setsiz = on_memory_lawful Setsiz setsiz refl setsiz_keeps (λ site s h. omega arith)
 descr_lawful Setva = on_memory_lawful Setva setva refl setva_keeps (λ site s h. omega arith)
 descr_lawful Setvc = on_memory_lawful Setvc setvc refl setvc_keeps (λ site s h. omega arith)
-descr_lawful _ = record { leaves = λ site s h. tt; alone = λ site s h. tt; few = λ site s h. omega arith }
+descr_lawful name = few_lawful name (λ site s h. tt) (λ site s h. tt) (λ site s h. omega arith)

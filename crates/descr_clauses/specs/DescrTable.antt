@@ -2,7 +2,7 @@
 use Rattle.std.specs.Prelude.{ℕ, Bool, true, false}
 use Rattle.sil_macros.specs.declared.names.Macro.{Macro}
 use Rattle.sil_macros.specs.declared.names.Macro.TheVariants.{Adjust, Decra, Getac, Getd, Getdc, Getsiz, Incra, Incrv, Mova, Movd, Movdic, Movv, Putac, Putd, Putdc, Putvc, Resetf, Rsetfi, Setac, Setav, Setf, Setfi, Setsiz, Setva, Setvc}
-use Rattle.sil_model.specs.Effects.{Effect, on_memory, not_built}
+use Rattle.sil_model.specs.Effects.{Effect, on_memory, no_clause}
 use Rattle.sil_model.specs.Sites.{Site}
 use Rattle.sil_model.specs.States.{State}
 use Rattle.descr_clauses.specs.DescriptorClauses.{adjust, decra, getac, getd, getdc, getsiz, incra, incrv, mova, movd, movdic, movv, putac, putd, putdc, putvc, resetf, rsetfi, setac, setav, setf, setfi, setsiz, setva, setvc}
@@ -62,7 +62,7 @@ descr_clause Setfi = on_memory setfi
 descr_clause Setsiz = on_memory setsiz
 descr_clause Setva = on_memory setva
 descr_clause Setvc = on_memory setvc
-descr_clause _ = not_built
+descr_clause _ = no_clause
 
 -- the visits that a clause makes to cells, characters, table entries and links
 abbrev pub descr_visits : Macro → Site → State → ℕ

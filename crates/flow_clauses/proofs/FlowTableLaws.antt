@@ -4,7 +4,7 @@ use Rattle.sil_macros.specs.declared.names.Macro.TheVariants.{Adreal, Branch, Br
 use Rattle.sil_macros.specs.declared.names.Macro.{Macro}
 use Rattle.sil_model.specs.UnitMacros.{KeepsTapes}
 use Rattle.sil_model.proofs.Operands.{items_most, maybe_items_most}
-use Rattle.sil_model.proofs.Lawful.{IsLawful, on_memory_lawful, on_site_lawful}
+use Rattle.sil_model.proofs.Lawful.{IsLawful, few_lawful, on_memory_lawful, on_site_lawful}
 use Rattle.sil_model.proofs.Leaves.{Leaves}
 use Rattle.sil_model.proofs.TapesKept.{tapes_memory}
 use Rattle.flow_clauses.specs.CallClauses.{branic}
@@ -25,26 +25,26 @@ flow_lawful Endex = on_memory_lawful Endex endex refl endex_keeps (λ site s h. 
 flow_lawful Exreal = on_memory_lawful Exreal trap refl trap_keeps (λ site s h. omega arith)
 flow_lawful Init = on_site_lawful Init init refl init_keeps (λ site s h. omega arith)
 flow_lawful Intrl = on_memory_lawful Intrl trap refl trap_keeps (λ site s h. omega arith)
-flow_lawful Istack = record { leaves = istack_leaves; alone = λ site s h. refl; few = λ site s h. omega arith }
+flow_lawful Istack = few_lawful Istack istack_leaves (λ site s h. refl) (λ site s h. omega arith)
 flow_lawful Link = on_memory_lawful Link trap refl trap_keeps (λ site s h. omega arith)
 flow_lawful Load = on_memory_lawful Load load refl load_keeps (λ site s h. omega arith)
 flow_lawful Mnreal = on_memory_lawful Mnreal trap refl trap_keeps (λ site s h. omega arith)
 flow_lawful Mpreal = on_memory_lawful Mpreal trap refl trap_keeps (λ site s h. omega arith)
-flow_lawful Mstime = record { leaves = mstime_leaves; alone = λ site s h. tapes_memory s _; few = λ site s h. omega arith }
+flow_lawful Mstime = few_lawful Mstime mstime_leaves (λ site s h. tapes_memory s _) (λ site s h. omega arith)
 flow_lawful Ordvst = on_memory_lawful Ordvst nothing refl nothing_keeps (λ site s h. omega arith)
-flow_lawful Pop = record { leaves = pop_leaves; alone = λ site s h. pop_tapes site s; few = λ site s h. omega (arith, items_most site.args 0) }
+flow_lawful Pop = few_lawful Pop pop_leaves (λ site s h. pop_tapes site s) (λ site s h. omega (arith, items_most site.args 0))
 flow_lawful Proc = on_memory_lawful Proc nothing refl nothing_keeps (λ site s h. omega arith)
-flow_lawful Pstack = record { leaves = pstack_leaves; alone = λ site s h. tapes_memory s _; few = λ site s h. omega arith }
-flow_lawful Push = record { leaves = push_leaves; alone = λ site s h. push_tapes site s; few = λ site s h. omega (arith, items_most site.args 0) }
-flow_lawful Rcall = record { leaves = rcall_leaves; alone = λ site s h. rcall_tapes site s; few = λ site s h. omega (arith, maybe_items_most site.args 2) }
+flow_lawful Pstack = few_lawful Pstack pstack_leaves (λ site s h. tapes_memory s _) (λ site s h. omega arith)
+flow_lawful Push = few_lawful Push push_leaves (λ site s h. push_tapes site s) (λ site s h. omega (arith, items_most site.args 0))
+flow_lawful Rcall = few_lawful Rcall rcall_leaves (λ site s h. rcall_tapes site s) (λ site s h. omega (arith, maybe_items_most site.args 2))
 flow_lawful Rcomp = on_memory_lawful Rcomp trap refl trap_keeps (λ site s h. omega arith)
 flow_lawful Realst = on_memory_lawful Realst trap refl trap_keeps (λ site s h. omega arith)
 flow_lawful Rlint = on_memory_lawful Rlint trap refl trap_keeps (λ site s h. omega arith)
-flow_lawful Rrturn = record { leaves = rrturn_leaves; alone = λ site s h. rrturn_tapes site s; few = λ site s h. omega arith }
+flow_lawful Rrturn = few_lawful Rrturn rrturn_leaves (λ site s h. rrturn_tapes site s) (λ site s h. omega arith)
 flow_lawful Sbreal = on_memory_lawful Sbreal trap refl trap_keeps (λ site s h. omega arith)
 flow_lawful Selbra = on_memory_lawful Selbra selbra refl selbra_keeps (λ site s h. omega arith)
-flow_lawful Spop = record { leaves = spop_leaves; alone = λ site s h. spop_tapes site s; few = λ site s h. omega (arith, items_most site.args 0) }
+flow_lawful Spop = few_lawful Spop spop_leaves (λ site s h. spop_tapes site s) (λ site s h. omega (arith, items_most site.args 0))
 flow_lawful Spreal = on_memory_lawful Spreal trap refl trap_keeps (λ site s h. omega arith)
-flow_lawful Spush = record { leaves = spush_leaves; alone = λ site s h. spush_tapes site s; few = λ site s h. omega (arith, items_most site.args 0) }
+flow_lawful Spush = few_lawful Spush spush_leaves (λ site s h. spush_tapes site s) (λ site s h. omega (arith, items_most site.args 0))
 flow_lawful Unload = on_memory_lawful Unload nothing refl nothing_keeps (λ site s h. omega arith)
-flow_lawful _ = record { leaves = λ site s h. tt; alone = λ site s h. tt; few = λ site s h. omega arith }
+flow_lawful name = few_lawful name (λ site s h. tt) (λ site s h. tt) (λ site s h. omega arith)

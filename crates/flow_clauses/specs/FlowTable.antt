@@ -2,7 +2,7 @@
 use Rattle.std.specs.Prelude.{ℕ, ◌+◌, ◌*◌, Bool, true, false}
 use Rattle.sil_macros.specs.declared.names.Macro.{Macro}
 use Rattle.sil_macros.specs.declared.names.Macro.TheVariants.{Adreal, Branch, Branic, Dvreal, Endex, Exreal, Init, Intrl, Istack, Link, Load, Mnreal, Mpreal, Mstime, Ordvst, Pop, Proc, Pstack, Push, Rcall, Rcomp, Realst, Rlint, Rrturn, Sbreal, Selbra, Spop, Spreal, Spush, Unload}
-use Rattle.sil_model.specs.Effects.{Effect, on_memory, on_site, not_built}
+use Rattle.sil_model.specs.Effects.{Effect, on_memory, on_site, no_clause}
 use Rattle.sil_model.specs.Sites.{Site}
 use Rattle.sil_model.specs.States.{State}
 use Rattle.sil_model.specs.Arguments.{maybe_places_at, places_at}
@@ -76,7 +76,7 @@ flow_clause Spop = spop
 flow_clause Spreal = on_memory trap
 flow_clause Spush = spush
 flow_clause Unload = on_memory nothing
-flow_clause _ = not_built
+flow_clause _ = no_clause
 
 -- the visits that a clause makes to cells, characters, table entries and links
 abbrev pub flow_visits : Macro → Site → State → ℕ

@@ -1,23 +1,14 @@
 -- Instructions in the flat form.
 use Rattle.std.proofs.Common.{◌≡◌, ℕ, zero, suc, ◌+◌, ◌-◌, ◌/◌, ◌%◌, ◌^◌, ◌<◌, ◌≤◌, ◌&&◌, ◌==◌, List, [], ◌∷◌, ◌++◌, length, map, take, take_all, get_or, true, Option, Some, None, Bor, refl, sym, ap, ◌∙◌, arith}
 use Rattle.std.specs.Prelude.{nat_le, option_map, slice_get}
-use Rattle.std.specs.Int.{w32, cast_signed}
 use Rattle.std.specs.Option.{option_copied}
 use Rattle.std.specs.Slice.{IsItemAt}
-use Rattle.std.proofs.lemmas.Int.{of_z-to_z}
 use Rattle.std.proofs.lemmas.Option.{slice_get-map}
 use Rattle.std.proofs.lemmas.List.{length-map}
 use Rattle.sil_base.specs.declared.places.TheConstants.{FIRST_WORD}
 use Rattle.rv_isa.specs.Decoded.{decoded}
 use Rattle.rv_emulate.specs.declared.flat.Flat.{Flat}
-use Rattle.rv_emulate.specs.FlatInstrs.{upper_bits}
 use Rattle.rv_emulate.specs.CpuView.{instr_at, instr_of}
-
--- the upper bits of an immediate that is made of them
-pub upper_again : (imm : ℕ) → imm < 2 ^ 20 → upper_bits (cast_signed w32 imm) ≡ imm
-upper_again imm h =
-    let same : imm % 2 ^ 20 ≡ imm = omega (arith, h) in
-    ap (λ n. n % 2 ^ 20) (of_z-to_z w32 imm (omega (arith, h))) ∙ same
 
 -- the instruction at a place of the code
 pub at_place : (flats : List Flat) (pc : ℕ) (o : Option Flat) → pc % 4 ≡ 0 → FIRST_WORD ≤ pc → o ≡ slice_get flats ((pc - FIRST_WORD) / 4) → instr_at (map instr_of flats) pc ≡ option_map instr_of o

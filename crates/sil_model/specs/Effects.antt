@@ -38,9 +38,9 @@ Effect = Option (Way × State)
 abbrev pub goes : Flow → State → Effect
 goes flow s = Some (On flow, s)
 
--- a macro that isn't built is undefined
-abbrev pub not_built : Site → State → Effect
-not_built site s = None
+-- a macro without a clause is undefined
+abbrev pub no_clause : Site → State → Effect
+no_clause site s = None
 
 -- a clause that looks at its operands and the memory alone, and one that looks at its site and the memory
 abbrev pub with_memory : State → MemoryEffect → Effect

@@ -1,4 +1,3 @@
-pub mod MacroLaws
 pub mod ClauseLaws
 pub mod Alone
 pub mod Runs

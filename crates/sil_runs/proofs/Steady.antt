@@ -36,8 +36,8 @@ use Rattle.sil_runs.specs.StepLaws.{LawOfSteps}
 use Rattle.sil_model.specs.WellFormed.{IsWellFormed}
 use Rattle.sil_model.proofs.Fits.{start_fits}
 use Rattle.sil_runs.proofs.ClauseLaws.{lawful}
-use Rattle.sil_runs.proofs.MacroLaws.{at_start}
 use Rattle.sil_model.proofs.Keeps.{all_at}
+use Rattle.sil_model.proofs.Lawful.{at_start}
 use Rattle.sil_model.proofs.Leaves.{IsHere, IsSound, IsRoomy, Leaves}
 
 record Widths (s : Sizes) : Type 0 where

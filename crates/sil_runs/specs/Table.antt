@@ -1,7 +1,7 @@
 -- The table of clauses, by groups.
 use Rattle.std.specs.Prelude.{if◌then◌else◌}
 use Rattle.sil_macros.specs.declared.names.Macro.{Macro}
-use Rattle.sil_model.specs.Effects.{Effect, not_built}
+use Rattle.sil_model.specs.Effects.{Effect, no_clause}
 use Rattle.sil_model.specs.Sites.{Site}
 use Rattle.sil_model.specs.States.{State}
 use Rattle.descr_clauses.specs.DescrTable.{is_of_descr, descr_clause}
@@ -13,4 +13,4 @@ use Rattle.string_clauses.specs.StringTable.{is_of_string, string_clause}
 
 -- the clause of a macro is that of its group
 unfoldable pub clause : Macro → Site → State → Effect
-clause name = if is_of_descr name then descr_clause name else (if is_of_choice name then choice_clause name else (if is_of_flow name then flow_clause name else (if is_of_unit name then unit_clause name else (if is_of_spec name then spec_clause name else (if is_of_string name then string_clause name else not_built)))))
+clause name = if is_of_descr name then descr_clause name else (if is_of_choice name then choice_clause name else (if is_of_flow name then flow_clause name else (if is_of_unit name then unit_clause name else (if is_of_spec name then spec_clause name else (if is_of_string name then string_clause name else no_clause)))))

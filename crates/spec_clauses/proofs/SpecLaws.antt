@@ -7,7 +7,7 @@ use Rattle.sil_model.specs.UnitMacros.{KeepsTapes}
 use Rattle.sil_model.proofs.Keeps.{keeps_here, keeps_read, keeps_write, sum_fits, writes_set_a, writes_read, writes_set_descr, writes_set_v}
 use Rattle.sil_model.proofs.Lists.{spec_fits, writes_set_spec}
 use Rattle.sil_model.proofs.Operands.{fits_value_alone, goto_leads}
-use Rattle.sil_model.proofs.Lawful.{IsLawful, KeepsMemory, KeepsOnSite, on_memory_lawful, on_site_lawful}
+use Rattle.sil_model.proofs.Lawful.{IsLawful, KeepsMemory, KeepsOnSite, few_lawful, on_memory_lawful, on_site_lawful}
 use Rattle.sil_model.proofs.Leaves.{Leaves}
 use Rattle.spec_clauses.specs.SpecifierClauses.{addlg, bksize, fshrtn, getlg, getlth, getspc, locsp, putlg, putspc, remsp, setlc, setsp, shortn, subsp, sized_block}
 use Rattle.spec_clauses.specs.SpecTable.{spec_clause, spec_visits}
@@ -88,4 +88,4 @@ spec_lawful Setlc = on_memory_lawful Setlc setlc refl setlc_keeps (λ site s h. 
 spec_lawful Setsp = on_memory_lawful Setsp setsp refl setsp_keeps (λ site s h. omega arith)
 spec_lawful Shortn = on_memory_lawful Shortn shortn refl shortn_keeps (λ site s h. omega arith)
 spec_lawful Subsp = on_memory_lawful Subsp subsp refl subsp_keeps (λ site s h. omega arith)
-spec_lawful _ = record { leaves = λ site s h. tt; alone = λ site s h. tt; few = λ site s h. omega arith }
+spec_lawful name = few_lawful name (λ site s h. tt) (λ site s h. tt) (λ site s h. omega arith)

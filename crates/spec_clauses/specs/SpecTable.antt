@@ -2,7 +2,7 @@
 use Rattle.std.specs.Prelude.{ℕ, Bool, true, false}
 use Rattle.sil_macros.specs.declared.names.Macro.{Macro}
 use Rattle.sil_macros.specs.declared.names.Macro.TheVariants.{Addlg, Bksize, Fshrtn, Getlg, Getlth, Getspc, Locsp, Putlg, Putspc, Remsp, Setlc, Setsp, Shortn, Subsp}
-use Rattle.sil_model.specs.Effects.{Effect, on_memory, on_site, not_built}
+use Rattle.sil_model.specs.Effects.{Effect, on_memory, on_site, no_clause}
 use Rattle.sil_model.specs.Sites.{Site}
 use Rattle.sil_model.specs.States.{State}
 use Rattle.spec_clauses.specs.SpecifierClauses.{addlg, bksize, fshrtn, getlg, getlth, getspc, locsp, putlg, putspc, remsp, setlc, setsp, shortn, subsp}
@@ -40,7 +40,7 @@ spec_clause Setlc = on_memory setlc
 spec_clause Setsp = on_memory setsp
 spec_clause Shortn = on_memory shortn
 spec_clause Subsp = on_memory subsp
-spec_clause _ = not_built
+spec_clause _ = no_clause
 
 -- the visits that a clause makes to cells, characters, table entries and links
 abbrev pub spec_visits : Macro → Site → State → ℕ

@@ -1,6 +1,5 @@
 pub mod Turns
 pub mod Room
-pub mod StringLawful
 pub mod StringKeeps
 pub mod StringVisits
 pub mod StringLaws

@@ -6,7 +6,7 @@ use Rattle.sil_macros.specs.declared.names.Macro.TheVariants.{Apdsp, Date, Getba
 use Rattle.sil_model.specs.declared.program.Arg.{Arg}
 use Rattle.sil_model.specs.Access.{◌>>=◌, a_at, char_at}
 use Rattle.sil_model.specs.Arguments.{place_at}
-use Rattle.sil_model.specs.Effects.{Effect, on_memory, on_site, not_built}
+use Rattle.sil_model.specs.Effects.{Effect, on_memory, on_site, no_clause}
 use Rattle.sil_model.specs.Integers.{◌⊞◌}
 use Rattle.sil_model.specs.Memory.{Memory}
 use Rattle.sil_model.specs.Sites.{Site}
@@ -42,7 +42,7 @@ string_clause Rplace = on_memory rplace
 string_clause Spcint = on_site (λ site m. spcint site.program.specials.int_code site.args m)
 string_clause Trimsp = on_memory trimsp
 string_clause Varid = on_site (λ site m. varid site.parameters.settings.bucket_count site.args m)
-string_clause _ = not_built
+string_clause _ = no_clause
 
 -- ---- visits to characters
 

@@ -6,8 +6,8 @@ ghost use Rattle.sil_model.specs.declared.program.Arg.TheVariants.{Goto, Place};
 ghost use Rattle.sil_micro.specs.Expands.{Expands};
 ghost use Rattle.exp_common.specs.Locations.{LocatesWithin};
 
-use exp_common::ByAnswer;
 use crate::parts::{append_first, append_length, append_start, append_text};
+use exp_common::ByAnswer;
 use sil_base::MAX_STATEMENTS;
 use sil_micro::{Code, op};
 use sil_model::Specials;

@@ -6,11 +6,11 @@ ghost use Rattle.sil_model.specs.declared.program.Arg.TheVariants.{Goto, Place};
 ghost use Rattle.sil_micro.specs.Expands.{Expands};
 ghost use Rattle.exp_common.specs.Locations.{LocatesWithin};
 
-use exp_common::{ByAnswer, ByOrder};
 use crate::parts::{
     append_copy_first, append_copy_length, append_first, append_length, append_shorter,
     append_start,
 };
+use exp_common::{ByAnswer, ByOrder};
 use sil_base::MAX_STATEMENTS;
 use sil_micro::{Code, op};
 use sil_model::Specials;

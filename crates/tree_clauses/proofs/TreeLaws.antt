@@ -20,7 +20,7 @@ use Rattle.sil_model.specs.Sites.{Site}
 use Rattle.sil_model.specs.States.{State}
 use Rattle.sil_model.specs.UnitMacros.{KeepsTapes, calls_unit}
 use Rattle.sil_model.proofs.Keeps.{Follows, same}
-use Rattle.sil_model.proofs.Lawful.{KeepsMemory, KeepsOnSite}
+use Rattle.sil_model.proofs.Lawful.{IsLawful, at_start, few_lawful, memory_lawful, on_memory_lawful, site_lawful}
 use Rattle.sil_model.proofs.Leaves.{IsHere, Leaves, LeavesAt, memory_leaves}
 use Rattle.sil_model.proofs.TapesKept.{tapes_memory}
 use Rattle.tree_clauses.specs.Loops.{each_visits}
@@ -31,30 +31,6 @@ use Rattle.tree_clauses.proofs.LoopLaws.{each_few, walk_few}
 use Rattle.tree_clauses.proofs.NodeLaws.{addsib_keeps, addson_keeps, insert_keeps, maknod_keeps}
 use Rattle.tree_clauses.proofs.PatternLaws.{HasMoved, cell_follows, cpypat_keeps, expint_keeps, linkor_keeps, located_keeps, lvalue_keeps, movblk_keeps, top_keeps}
 
--- the visits are few for so many cells
-abbrev pub HasBoundedVisits : (Site → State → ℕ) → Type 0
-HasBoundedVisits visits = (site : Site) (s : State) → IsHere site s → operand_count site.args ≤ 240 → visits site s ≤ 1024 + 4 * length s.memory.cells * s.memory.limits.cell_size
-
--- the clause leaves what is valid, and the tapes where it calls no unit; and its visits are bounded by the cells
-pub record IsTreeLawful (name : Macro) (clause : Site → State → Effect) (visits : Site → State → ℕ) : Type 0 where
-  pub leaves : (site : Site) (s : State) → IsHere site s → LeavesAt site (clause site s)
-  pub alone : (site : Site) (s : State) → calls_unit name ≡ false → KeepsTapes s.tapes (clause site s)
-  pub few : HasBoundedVisits visits
-
-memory_lawful : {clause : Site → State → Effect} {visits : Site → State → ℕ} (name : Macro) (f : List Arg → Memory → MemoryEffect) → clause ≡ on_memory f → KeepsMemory f → HasBoundedVisits visits → IsTreeLawful name clause visits
-memory_lawful name f is keeps few = record {
-  leaves = λ site s h. rw is (memory_leaves site.program site.parameters.settings s _ h.sound (keeps (bounds_of site.program site.parameters.settings) site.args s.memory h.args h.sound.memory));
-  alone = λ site s calls. rw is (tapes_memory s (f site.args s.memory));
-  few = few;
-}
-
-site_lawful : {clause : Site → State → Effect} {visits : Site → State → ℕ} (name : Macro) (f : Site → Memory → MemoryEffect) → clause ≡ on_site f → KeepsOnSite f → HasBoundedVisits visits → IsTreeLawful name clause visits
-site_lawful name f is keeps few = record {
-  leaves = λ site s h. rw is (memory_leaves site.program site.parameters.settings s _ h.sound (keeps site s h));
-  alone = λ site s calls. rw is (tapes_memory s (f site s.memory));
-  few = few;
-}
-
 -- ---- visits of loops
 
 zero_few : {A : Type 0} (most : ℕ) (o : Option A) (f : A → Option ℕ) → ((a : A) → o ≡ Some a → or_zero (f a) ≤ most) → or_zero (o >>= f) ≤ most
@@ -62,9 +38,9 @@ zero_few most None f h = omega arith
 zero_few most (Some a) f h = h a refl
 
 -- a cell has at least sixteen bytes
-wide : (cells d : ℕ) → 16 ≤ d → 64 * cells ≤ 4 * cells * d
+wide : (cells d : ℕ) → 16 ≤ d → 64 * cells ≤ 4 * (cells * d)
 wide cells d least =
-    let low : 4 * cells * 16 ≤ 4 * cells * d = mul-le (4 * cells) 16 (4 * cells) d (omega arith) least in
+    let low : cells * 16 ≤ cells * d = mul-le cells 16 cells d (omega arith) least in
     omega (arith, low)
 
 pair_price_few : (size : ℕ) (offset : ℤ) → pair_price size offset ≤ 1
@@ -140,27 +116,27 @@ unfolding cell_visits
 cell_few args m h = search (zero_few, moves_few) depth 24
 
 -- so many cells with their characters are fewer than four times as many bytes
-cells_wide : (cells d : ℕ) → 16 ≤ d → cells * (2 + d) ≤ 4 * cells * d
+cells_wide : (cells d : ℕ) → 16 ≤ d → cells * (2 + d) ≤ 4 * (cells * d)
 cells_wide cells d least =
     let low : cells * (2 + d) ≤ cells * (4 * d) = mul-le cells (2 + d) cells (4 * d) (omega arith) (omega arith) in
-    let same : cells * (4 * d) ≡ 4 * cells * d = grind arith in
+    let same : cells * (4 * d) ≡ 4 * (cells * d) = grind arith in
     omega (arith, low, same)
 
-bounded : (site : Site) (s : State) (visits : ℕ) → IsHere site s → visits ≤ 1024 + 64 * length s.memory.cells → visits ≤ 1024 + 4 * length s.memory.cells * s.memory.limits.cell_size
+bounded : (site : Site) (s : State) (visits : ℕ) → IsHere site (at_start s) → visits ≤ 1024 + 64 * length s.memory.cells → visits ≤ 1024 + 4 * (length s.memory.cells * s.memory.limits.cell_size)
 bounded site s visits h le = omega (arith, le, wide (length s.memory.cells) s.memory.limits.cell_size h.sound.memory.limits.least)
 
-pub tree_lawful : (name : Macro) → IsTreeLawful name (tree_clause name) (tree_visits name)
+pub tree_lawful : (name : Macro) → IsLawful name (tree_clause name) (tree_visits name)
 unfolding tree_clause Leaves KeepsTapes
-tree_lawful Addsib = memory_lawful Addsib addsib refl addsib_keeps (λ site s h few. omega arith)
-tree_lawful Addson = memory_lawful Addson addson refl addson_keeps (λ site s h few. omega arith)
-tree_lawful Cpypat = memory_lawful Cpypat cpypat refl cpypat_keeps (λ site s h few. bounded site s _ h (omega (arith, node_few site.args s.memory)))
-tree_lawful Expint = memory_lawful Expint expint refl expint_keeps (λ site s h few. omega arith)
-tree_lawful Insert = memory_lawful Insert insert refl insert_keeps (λ site s h few. omega arith)
-tree_lawful Linkor = memory_lawful Linkor linkor refl linkor_keeps (λ site s h few. bounded site s _ h (omega (arith, link_few site.args s.memory)))
-tree_lawful Locapt = memory_lawful Locapt locapt refl (located_keeps 1) (λ site s h few. bounded site s _ h (omega (arith, pair_few 1 site.args s.memory)))
-tree_lawful Locapv = memory_lawful Locapv locapv refl (located_keeps 2) (λ site s h few. bounded site s _ h (omega (arith, pair_few 2 site.args s.memory)))
-tree_lawful Lvalue = memory_lawful Lvalue lvalue refl lvalue_keeps (λ site s h few. bounded site s _ h (omega (arith, lowest_few site.args s.memory)))
-tree_lawful Maknod = memory_lawful Maknod maknod refl maknod_keeps (λ site s h few. omega (arith, sixth_few (maybe_place_at site.args 5)))
-tree_lawful Movblk = memory_lawful Movblk movblk refl movblk_keeps (λ site s h few. omega (arith, cell_few site.args s.memory h.sound.memory, cells_wide (length s.memory.cells) s.memory.limits.cell_size h.sound.memory.limits.least))
-tree_lawful Top = site_lawful Top top refl top_keeps (λ site s h few. bounded site s _ h (omega (arith, title_few site s.memory)))
-tree_lawful _ = record { leaves = λ site s h. tt; alone = λ site s h. tt; few = λ site s h few. omega arith }
+tree_lawful Addsib = on_memory_lawful Addsib addsib refl addsib_keeps (λ site s few. omega arith)
+tree_lawful Addson = on_memory_lawful Addson addson refl addson_keeps (λ site s few. omega arith)
+tree_lawful Cpypat = memory_lawful Cpypat cpypat refl cpypat_keeps (λ site s few h. bounded site s _ h (omega (arith, node_few site.args s.memory)))
+tree_lawful Expint = on_memory_lawful Expint expint refl expint_keeps (λ site s few. omega arith)
+tree_lawful Insert = on_memory_lawful Insert insert refl insert_keeps (λ site s few. omega arith)
+tree_lawful Linkor = memory_lawful Linkor linkor refl linkor_keeps (λ site s few h. bounded site s _ h (omega (arith, link_few site.args s.memory)))
+tree_lawful Locapt = memory_lawful Locapt locapt refl (located_keeps 1) (λ site s few h. bounded site s _ h (omega (arith, pair_few 1 site.args s.memory)))
+tree_lawful Locapv = memory_lawful Locapv locapv refl (located_keeps 2) (λ site s few h. bounded site s _ h (omega (arith, pair_few 2 site.args s.memory)))
+tree_lawful Lvalue = memory_lawful Lvalue lvalue refl lvalue_keeps (λ site s few h. bounded site s _ h (omega (arith, lowest_few site.args s.memory)))
+tree_lawful Maknod = on_memory_lawful Maknod maknod refl maknod_keeps (λ site s few. omega (arith, sixth_few (maybe_place_at site.args 5)))
+tree_lawful Movblk = memory_lawful Movblk movblk refl movblk_keeps (λ site s few h. omega (arith, cell_few site.args s.memory h.sound.memory, cells_wide (length s.memory.cells) s.memory.limits.cell_size h.sound.memory.limits.least))
+tree_lawful Top = site_lawful Top top refl (λ site s legal h. top_keeps site s h) (λ site s few h. bounded site s _ h (omega (arith, title_few site s.memory)))
+tree_lawful name = few_lawful name (λ site s h. tt) (λ site s h. tt) (λ site s h. omega arith)

@@ -7,7 +7,7 @@ use Rattle.sil_macros.specs.declared.names.Macro.TheVariants.{Addsib, Addson, Cp
 use Rattle.sil_model.specs.declared.program.Arg.{Arg}
 use Rattle.sil_model.specs.Access.{◌>>=◌, a_at, v_at, cell_at, descr_at}
 use Rattle.sil_model.specs.Arguments.{place_at, maybe_place_at}
-use Rattle.sil_model.specs.Effects.{Effect, on_memory, on_site, not_built}
+use Rattle.sil_model.specs.Effects.{Effect, on_memory, on_site, no_clause}
 use Rattle.sil_model.specs.Integers.{◌⊞◌}
 use Rattle.sil_model.specs.Memory.{Memory}
 use Rattle.sil_model.specs.Sites.{Site}
@@ -45,7 +45,7 @@ tree_clause Lvalue = on_memory lvalue
 tree_clause Maknod = on_memory maknod
 tree_clause Movblk = on_memory movblk
 tree_clause Top = on_site top
-tree_clause _ = not_built
+tree_clause _ = no_clause
 
 -- ---- the visits of loops; none where what a loop starts from isn't read
 

@@ -2,7 +2,7 @@
 use Rattle.std.specs.Prelude.{ℕ, ◌+◌, Bool, true, false}
 use Rattle.sil_macros.specs.declared.names.Macro.{Macro}
 use Rattle.sil_macros.specs.declared.names.Macro.TheVariants.{Bkspce, Enfile, Output, Rewind}
-use Rattle.sil_model.specs.Effects.{Effect, not_built}
+use Rattle.sil_model.specs.Effects.{Effect, no_clause}
 use Rattle.sil_model.specs.Sites.{Site}
 use Rattle.sil_model.specs.States.{State}
 use Rattle.sil_model.specs.Arguments.{maybe_places_at}
@@ -22,7 +22,7 @@ unit_clause Bkspce = bkspce
 unit_clause Enfile = enfile
 unit_clause Output = output
 unit_clause Rewind = rewind
-unit_clause _ = not_built
+unit_clause _ = no_clause
 
 -- the visits that a clause makes to cells, characters, table entries and links
 abbrev pub unit_visits : Macro → Site → State → ℕ
