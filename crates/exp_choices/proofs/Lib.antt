@@ -1,3 +1,3 @@
 pub mod Orders
 pub mod Sums
-pub mod Products
+pub mod Quotients

@@ -1,4 +1,3 @@
-pub mod LoudParts
 pub mod Calling
 pub mod Moving
 pub mod ItemWords

@@ -35,7 +35,7 @@ use Rattle.exp_units.specs.OutputOperands.{IsOutput}
 use Rattle.exp_units.specs.UnitParts.{call_code, items_code, unit_head}
 use Rattle.exp_units.proofs.Calling.{at_call, call_goes, head_first, only_one, same_unit}
 use Rattle.exp_units.proofs.ItemWords.{held_words, items_go, items_part}
-use Rattle.exp_units.proofs.LoudParts.{IsLoud, both_loud, loud_piece}
+use Rattle.exp_common.proofs.LoudParts.{IsLoud, both_loud, loud_piece}
 
 -- ---- its operations
 

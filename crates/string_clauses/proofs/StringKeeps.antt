@@ -60,7 +60,7 @@ keeps_none : (last : ℕ) (m : Memory) → Keeps last m None
 unfolding Keeps
 keeps_none last m = tt
 
-keeps_leads : (last : ℕ) (m : Memory) (flow : Flow) (o : Option Memory) → LeadsWithin last flow → Writes m o → Keeps last m (leads flow o)
+pub keeps_leads : (last : ℕ) (m : Memory) (flow : Flow) (o : Option Memory) → LeadsWithin last flow → Writes m o → Keeps last m (leads flow o)
 unfolding Keeps Writes
 keeps_leads last m flow None l h = tt
 keeps_leads last m flow (Some m') l h = (l, h)
@@ -271,7 +271,7 @@ trim_gives m at most i left t le is = trim_by most left t (char_at m (at ⊞ pos
 trimmed_fits : (m : Memory) (at : ℤ) (n l : ℕ) → walk (trim_turn m at) all_blank 0 n n ≡ Some l → l ≤ n
 trimmed_fits m at n l is = walk_gives (trim_turn m at) all_blank (λ k. k ≤ n) (λ k. k ≤ n) (λ s q. q) (λ i s t q e. trim_gives m at n i s t q e) n 0 n l (omega arith) is
 
-shorter_fits : (limits : Limits) (s : Specifier) (l : ℕ) → FitsSpec limits s → l ≤ s.l → FitsSpec limits (record s { l = l })
+pub shorter_fits : (limits : Limits) (s : Specifier) (l : ℕ) → FitsSpec limits s → l ≤ s.l → FitsSpec limits (record s { l = l })
 shorter_fits limits s l fit le = record { a = fit.a; f = fit.f; v = fit.v; o = fit.o; l = omega (arith, le, fit.l) }
 
 pub trimsp_keeps : KeepsMemory trimsp

@@ -73,7 +73,7 @@ replaces_few m table at n bytes h small =
 
 -- ---- what is counted where all is found
 
-or_few : {A : Type 0} (o : Option A) (f : A → Option ℕ) (k : ℕ) → ((a : A) → o ≡ Some a → or_none (f a) ≤ k) → or_none (o >>= f) ≤ k
+pub or_few : {A : Type 0} (o : Option A) (f : A → Option ℕ) (k : ℕ) → ((a : A) → o ≡ Some a → or_none (f a) ≤ k) → or_none (o >>= f) ≤ k
 or_few None f k h = omega arith
 or_few (Some a) f k h = h a refl
 

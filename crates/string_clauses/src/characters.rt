@@ -16,14 +16,14 @@ pub(crate) fn shorter(x: u64, y: u64) -> u64
 
 /// The address of a second cell.
 #[tactic(auto, unfolding(sil_model::specs::Integers::wrapped_sum))]
-pub(crate) fn second(cells: &Cells, at: i64) -> i64
+pub fn second(cells: &Cells, at: i64) -> i64
     ensures { result ≡ second_of cells.now at }
 {
     at.wrapping_add_unsigned(cells.cell_size())
 }
 
 /// The length of the specifier at an address, in characters.
-pub(crate) fn length(cells: &Cells, at: i64) -> Option<u64>
+pub fn length(cells: &Cells, at: i64) -> Option<u64>
     ensures reads { result ≡ length_at cells.now at }
     ensures small { IfSome result (λ n. n < 2 ^ 48) }
 {
@@ -32,7 +32,7 @@ pub(crate) fn length(cells: &Cells, at: i64) -> Option<u64>
 
 /// The address of the first of so many characters of the specifier at an address.
 #[tactic(auto, unfolding(sil_model::specs::Integers::wrapped_sum))]
-pub(crate) fn first(cells: &Cells, count: u64, at: i64) -> Option<i64>
+pub fn first(cells: &Cells, count: u64, at: i64) -> Option<i64>
     ensures { result ≡ first_of count cells.now at }
 {
     if count == 0 {
@@ -74,7 +74,7 @@ pub(crate) fn set_text(cells: &mut Cells, at: i64, first: i64, count: u64) -> Op
 
 /// Writes characters from an address on, one by one.
 #[tactic(auto, using(crate::proofs::Turns::texts), unfolding(sil_model::specs::Integers::wrapped_sum))]
-pub(crate) fn write_chars(cells: &mut Cells, at: i64, text: &[u8]) -> Option<()>
+pub fn write_chars(cells: &mut Cells, at: i64, text: &[u8]) -> Option<()>
     ensures writes { chars_written at text.now cells.old ≡ written result cells.new }
     ensures keeps { SameShape cells.old cells.new }
 {

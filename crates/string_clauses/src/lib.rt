@@ -6,6 +6,7 @@ mod copies;
 mod integers;
 mod scans;
 
+pub use characters::{first, length, second, write_chars};
 pub use copies::{apdsp, date, rplace};
 pub use integers::{intspc, spcint};
 pub use scans::{getbal, lexcmp, trimsp, varid};

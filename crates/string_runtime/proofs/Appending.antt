@@ -21,7 +21,7 @@ use Rattle.string_clauses.specs.Walks.{each, each_visits}
 use Rattle.string_clauses.proofs.Room.{char_is_byte}
 use Rattle.string_runtime.specs.StringParts.{append_code}
 use Rattle.string_runtime.proofs.StringHeads.{after_memory}
-use Rattle.string_runtime.proofs.Words.{add_pos, low_of_byte}
+use Rattle.exp_common.proofs.Words.{add_pos, low_of_byte}
 
 module _ (g : Setting) (k : ℕ) (s1 s2 : ℤ) (before : State) (failed : Option ℕ) (words : ℕ → ℤ) (r : Registers) (to from : ℤ) (total cost : ℕ) where
   -- the state at the loop's head, and behind the loop

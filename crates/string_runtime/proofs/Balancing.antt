@@ -27,7 +27,7 @@ use Rattle.string_clauses.specs.StringTable.{getbal_turns, string_clause, string
 use Rattle.string_clauses.specs.Walks.{on_turn, visits_after, walk, walk_visits}
 use Rattle.string_runtime.specs.StringParts.{balance_code}
 use Rattle.string_runtime.proofs.StringHeads.{after_memory}
-use Rattle.string_runtime.proofs.Words.{add_pos, sub_one}
+use Rattle.exp_common.proofs.Words.{add_pos, sub_one}
 
 -- a length that is too great is none, whether or not it wraps
 sum_within : (limit l j : ℕ) → limit < 2 ^ 48 → l < 2 ^ 48 → j < 2 ^ 63 → within limit (wrapped_sum (pos l) (pos j)) ≡ within limit (pos (l + j))

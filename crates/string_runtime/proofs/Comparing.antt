@@ -22,7 +22,7 @@ use Rattle.string_clauses.specs.StringTable.{lexcmp_turns, string_clause, string
 use Rattle.string_clauses.specs.Walks.{walk, walk_visits}
 use Rattle.string_runtime.specs.StringParts.{compare_code, first_code, first_length, first_string, length_code, shorter_code, start_code}
 use Rattle.string_runtime.proofs.StringHeads.{after_memory, first_goes, first_part, length_goes, length_part, start_first, start_goes}
-use Rattle.string_runtime.proofs.Words.{add_pos}
+use Rattle.exp_common.proofs.Words.{add_pos}
 
 module _ (g : Setting) (before : State) (failed : Option ℕ) (words : ℕ → ℤ) (r : Registers) (l1 l2 total cost : ℕ) (at1 at2 : ℤ) (greater equal less : Option ℕ) where
   abbrev code : List Op

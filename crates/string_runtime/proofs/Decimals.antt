@@ -28,7 +28,7 @@ use Rattle.string_clauses.proofs.StringKeeps.{signed_bytes}
 use Rattle.string_runtime.specs.StringParts.{decimal_code, text_code}
 use Rattle.string_runtime.proofs.StringHeads.{after_memory}
 use Rattle.string_runtime.proofs.Texts.{text_goes, text_part}
-use Rattle.string_runtime.proofs.Words.{add_pos, low_of_byte, sub_one}
+use Rattle.exp_common.proofs.Words.{add_pos, low_of_byte, sub_one}
 
 -- ---- words
 

@@ -26,7 +26,7 @@ use Rattle.string_clauses.proofs.Room.{char_is_byte}
 use Rattle.string_runtime.specs.StringParts.{digits_code, first_code, length_code, no_code, start_code}
 use Rattle.string_runtime.proofs.DigitWords.{digit_more, digit_no, digit_small, digit_value, digit_yes, many_test, room_no, room_yes, ten_times, turned}
 use Rattle.string_runtime.proofs.StringHeads.{after_memory, first_goes, first_part, length_goes, length_part, start_first, start_goes}
-use Rattle.string_runtime.proofs.Words.{add_pos}
+use Rattle.exp_common.proofs.Words.{add_pos}
 
 bind_more : {A B C : Type 0} (o : Option A) (f : A → B) (g : B → Option C) → (o >>= (λ x. g (f x))) ≡ ((o >>= (λ x. Some (f x))) >>= g)
 bind_more None f g = refl

@@ -22,7 +22,7 @@ use Rattle.sil_micro.specs.Pieces.{joined}
 use Rattle.string_clauses.specs.StringTable.{string_clause, string_visits, varid_turns}
 use Rattle.string_runtime.specs.StringParts.{first_code, hash_code, length_code, start_code}
 use Rattle.string_runtime.proofs.StringHeads.{after_memory, first_goes, first_part, length_goes, length_part, start_first, start_goes}
-use Rattle.string_runtime.proofs.Words.{add_pos, times_pos, quotient_pos, remainder_pos}
+use Rattle.exp_common.proofs.Words.{add_pos, times_pos, quotient_pos, remainder_pos}
 
 module _ (g : Setting) (d : ℤ) (before : State) (failed : Option ℕ) (words : ℕ → ℤ) (r : Registers) (valid : IsMemory before.memory) (total cost : ℕ) (first : ℤ) where
   abbrev size : ℕ

@@ -1,4 +1,3 @@
-pub mod Words
 pub mod StringHeads
 pub mod Hashes
 pub mod Trimming

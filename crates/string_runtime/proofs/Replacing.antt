@@ -29,7 +29,7 @@ use Rattle.string_clauses.proofs.Room.{char_is_byte}
 use Rattle.string_clauses.proofs.StringKeeps.{AreBytes, pairs_give}
 use Rattle.string_runtime.specs.StringParts.{first_code, keep_first, keep_second, length_code, replace_code, start_code}
 use Rattle.string_runtime.proofs.StringHeads.{after_memory, first_goes, first_part, length_goes, length_part, start_first, start_goes}
-use Rattle.string_runtime.proofs.Words.{add_pos, low_of_byte, sub_one}
+use Rattle.exp_common.proofs.Words.{add_pos, low_of_byte, sub_one}
 
 -- ---- the table in words: 0 where nothing stands, else one more than the character
 

@@ -24,7 +24,7 @@ use Rattle.string_clauses.specs.StringClauses.{chars_written, date, set_text_at}
 use Rattle.string_clauses.specs.StringTable.{hidden_of, string_clause, string_visits}
 use Rattle.string_runtime.specs.StringParts.{date_code, text_code}
 use Rattle.string_runtime.proofs.StringHeads.{after_memory}
-use Rattle.string_runtime.proofs.Words.{sub_one, quotient_pos}
+use Rattle.exp_common.proofs.Words.{sub_one, quotient_pos}
 
 pub text_part : (statements formats : ℕ) (s : ℤ) → IsPart statements formats 88 (text_code s)
 unfolding text_code

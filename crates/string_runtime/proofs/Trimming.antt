@@ -21,7 +21,7 @@ use Rattle.string_clauses.specs.StringTable.{string_clause, string_visits}
 use Rattle.string_clauses.specs.Walks.{walk, walk_visits}
 use Rattle.string_runtime.specs.StringParts.{trim_code}
 use Rattle.string_runtime.proofs.StringHeads.{after_memory}
-use Rattle.string_runtime.proofs.Words.{sub_one}
+use Rattle.exp_common.proofs.Words.{sub_one}
 
 module _ (g : Setting) (k : ℕ) (s1 s2 : ℤ) (before : State) (failed : Option ℕ) (words : ℕ → ℤ) (r : Registers) (first : ℤ) (cost : ℕ) where
   -- the state at the loop's head, and behind the loop

@@ -9,3 +9,4 @@ mod parts;
 mod scans;
 
 pub use expansion::{expand_string, is_string};
+pub use parts::{append_first, append_keep_second, append_length, append_start};

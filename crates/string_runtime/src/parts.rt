@@ -7,7 +7,7 @@ use sil_micro::{Code, op};
 use std::alloc::AllocError;
 
 /// Statement k begins.
-pub(crate) fn append_start(code: &mut Code, k: u32) -> Result<(), AllocError>
+pub fn append_start(code: &mut Code, k: u32) -> Result<(), AllocError>
     requires room { length code.old.ops + 500 < 2 ^ 32 }
     ensures grown { OnOk result (code.new ≡ appended code.old (start_code k)) }
     ensures count { OnOk result (length code.new.ops ≡ length code.old.ops + 4) }
@@ -22,7 +22,7 @@ pub(crate) fn append_start(code: &mut Code, k: u32) -> Result<(), AllocError>
 }
 
 /// Register 7 := the length of a specifier.
-pub(crate) fn append_length(code: &mut Code, s: i64) -> Result<(), AllocError>
+pub fn append_length(code: &mut Code, s: i64) -> Result<(), AllocError>
     requires room { length code.old.ops + 500 < 2 ^ 32 }
     ensures grown { OnOk result (code.new ≡ appended code.old (length_code s)) }
     ensures count { OnOk result (length code.new.ops ≡ length code.old.ops + 3) }
@@ -32,7 +32,7 @@ pub(crate) fn append_length(code: &mut Code, s: i64) -> Result<(), AllocError>
 }
 
 /// Register 2 := the address of the first character of a specifier, where register 7 isn't 0.
-pub(crate) fn append_first(code: &mut Code, s: i64) -> Result<(), AllocError>
+pub fn append_first(code: &mut Code, s: i64) -> Result<(), AllocError>
     requires room { length code.old.ops + 500 < 2 ^ 32 }
     ensures grown { OnOk result (code.new ≡ appended code.old (first_code s)) }
     ensures count { OnOk result (length code.new.ops ≡ length code.old.ops + 7) }
@@ -112,7 +112,7 @@ pub(crate) fn append_keep_first(code: &mut Code) -> Result<(), AllocError>
 }
 
 /// Registers 14 and 15 := registers 2 and 7.
-pub(crate) fn append_keep_second(code: &mut Code) -> Result<(), AllocError>
+pub fn append_keep_second(code: &mut Code) -> Result<(), AllocError>
     requires room { length code.old.ops + 500 < 2 ^ 32 }
     ensures grown { OnOk result (code.new ≡ appended code.old keep_second) }
     ensures count { OnOk result (length code.new.ops ≡ length code.old.ops + 2) }

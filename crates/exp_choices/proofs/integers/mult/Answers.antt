@@ -8,7 +8,7 @@ use Rattle.sil_model.specs.Integers.{wrapped_product}
 use Rattle.sil_micro.proofs.Making.{by_option}
 use Rattle.exp_common.proofs.Questions.{by_read}
 use Rattle.exp_common.proofs.Leads.{goes_to, lead_within}
-use Rattle.exp_choices.proofs.Products.{by_product}
+use Rattle.exp_common.proofs.Products.{by_product}
 use Rattle.exp_choices.proofs.integers.mult.Goals as goal
 use mir.Val.{SFits}
 use mir.Syntax.{w64}
