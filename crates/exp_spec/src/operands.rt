@@ -89,7 +89,7 @@ pub(crate) fn three_specs(args: &[Arg]) -> (i64, i64, i64)
 
 pub(crate) fn three_specs_answer(args: &[Arg]) -> (i64, i64, i64, ByAnswer)
     requires { IsTrue (fit (S ∷ S ∷ S ∷ L ∷ L ∷ []) args.now) }
-    ensures { args.now ≡ Place result.0 ∷ Place result.1 ∷ Place result.2 ∷ Goto result.3.failure ∷ Goto result.3.success ∷ [] }
+    ensures { args.now ≡ Place result.0 ∷ Place result.1 ∷ Place result.2 ∷ Goto result.3.no ∷ Goto result.3.yes ∷ [] }
 {
     match args {
         [
