@@ -2,7 +2,7 @@
 use Rattle.std.proofs.Common.{◌≡◌, ℕ, Bool, true, false, List, refl, arith}
 use Rattle.std.specs.Prelude.{IsTrue, if◌then◌else◌}
 use Rattle.sil_macros.specs.declared.names.Macro.{Macro}
-use Rattle.sil_macros.specs.declared.names.Macro.TheVariants.{Acomp, Addlg, Adjust, Apdsp, Branch, Endex, Output, Push, Rewind}
+use Rattle.sil_macros.specs.declared.names.Macro.TheVariants.{Acomp, Addlg, Addsib, Adjust, Apdsp, Branch, Endex, Linkor, Output, Push, Rewind, Stream, Top}
 use Rattle.sil_model.specs.declared.program.Arg.{Arg}
 use Rattle.sil_model.specs.declared.program.Specials.{Specials}
 use Rattle.sil_model.specs.Effects.{Effect}
@@ -14,6 +14,8 @@ use Rattle.flow_clauses.specs.FlowTable.{is_of_flow, flow_clause, flow_visits}
 use Rattle.unit_clauses.specs.UnitTable.{is_of_unit, unit_clause, unit_visits}
 use Rattle.spec_clauses.specs.SpecTable.{is_of_spec, spec_clause, spec_visits}
 use Rattle.string_clauses.specs.StringTable.{is_of_string, string_clause, string_visits}
+use Rattle.tree_clauses.specs.TreeTable.{is_of_tree, tree_clause, tree_visits}
+use Rattle.table_clauses.specs.SyntaxTable.{is_of_table, table_clause, table_visits}
 use Rattle.sil_runs.specs.Costs.{visits}
 use Rattle.sil_runs.specs.Table.{clause}
 use Rattle.sil_micro.specs.Codes.{MicroCode}
@@ -27,6 +29,10 @@ use Rattle.exp_units.specs.Group.{is_move, is_output}
 use Rattle.exp_units.specs.InFormats.{ExpandsIn}
 use Rattle.string_runtime.specs.Group.{is_string}
 use Rattle.exp_spec.specs.Group.{is_spec}
+use Rattle.exp_tables.specs.Group.{is_table}
+use Rattle.pattern_runtime.specs.Group.{is_pattern}
+use Rattle.exp_blocks.specs.Group.{is_block}
+use Rattle.exp_trees.specs.Group.{is_tree}
 
 -- ---- what is expanded in a group has its clause in the group's table, and in none before it
 
@@ -81,6 +87,28 @@ string_of : (name : Macro) → IsTrue (is_string name) → IsString name
 string_of Apdsp h = (refl, refl, refl, refl, refl, refl)
 string_of _ h = (grind arith, grind arith, grind arith, grind arith, grind arith, grind arith)
 
+abbrev IsTree : Macro → Type 0
+IsTree name = (is_of_descr name ≡ false) × (is_of_choice name ≡ false) × (is_of_flow name ≡ false) × (is_of_unit name ≡ false) × (is_of_spec name ≡ false) × (is_of_string name ≡ false) × (is_of_tree name ≡ true)
+
+tree_of : (name : Macro) → IsTrue (is_tree name) → IsTree name
+tree_of Addsib h = (refl, refl, refl, refl, refl, refl, refl)
+tree_of _ h = (grind arith, grind arith, grind arith, grind arith, grind arith, grind arith, grind arith)
+
+block_of : (name : Macro) → IsTrue (is_block name) → IsTree name
+block_of Top h = (refl, refl, refl, refl, refl, refl, refl)
+block_of _ h = (grind arith, grind arith, grind arith, grind arith, grind arith, grind arith, grind arith)
+
+pattern_of : (name : Macro) → IsTrue (is_pattern name) → IsTree name
+pattern_of Linkor h = (refl, refl, refl, refl, refl, refl, refl)
+pattern_of _ h = (grind arith, grind arith, grind arith, grind arith, grind arith, grind arith, grind arith)
+
+abbrev IsTable : Macro → Type 0
+IsTable name = (is_of_descr name ≡ false) × (is_of_choice name ≡ false) × (is_of_flow name ≡ false) × (is_of_unit name ≡ false) × (is_of_spec name ≡ false) × (is_of_string name ≡ false) × (is_of_tree name ≡ false) × (is_of_table name ≡ true)
+
+table_of : (name : Macro) → IsTrue (is_table name) → IsTable name
+table_of Stream h = (refl, refl, refl, refl, refl, refl, refl, refl)
+table_of _ h = (grind arith, grind arith, grind arith, grind arith, grind arith, grind arith, grind arith, grind arith)
+
 -- ---- so an expansion by the group's table is one by the table
 
 module _ {old new : MicroCode} {k : ℕ} {specials : Specials} {args : List Arg} {prints : Bool} where
@@ -131,6 +159,30 @@ module _ {old new : MicroCode} {k : ℕ} {specials : Specials} {args : List Arg}
       let e = string_of name h in
       second (is_of_descr name) _ _ _ _ e.0 (second (is_of_choice name) _ _ _ _ e.1 (second (is_of_flow name) _ _ _ _ e.2 (second (is_of_unit name) _ _ _ _ e.3 (second (is_of_spec name) _ _ _ _ e.4 (first (is_of_string name) _ _ _ _ e.5 x)))))
 
+  pub by_tree : (name : Macro) → IsTrue (is_tree name) → Expands old new k specials args (tree_clause name) (tree_visits name) prints → Expands old new k specials args (clause name) (visits name) prints
+  unfolding clause
+  by_tree name h x =
+      let e = tree_of name h in
+      second (is_of_descr name) _ _ _ _ e.0 (second (is_of_choice name) _ _ _ _ e.1 (second (is_of_flow name) _ _ _ _ e.2 (second (is_of_unit name) _ _ _ _ e.3 (second (is_of_spec name) _ _ _ _ e.4 (second (is_of_string name) _ _ _ _ e.5 (first (is_of_tree name) _ _ _ _ e.6 x))))))
+
+  pub by_block : (name : Macro) → IsTrue (is_block name) → Expands old new k specials args (tree_clause name) (tree_visits name) prints → Expands old new k specials args (clause name) (visits name) prints
+  unfolding clause
+  by_block name h x =
+      let e = block_of name h in
+      second (is_of_descr name) _ _ _ _ e.0 (second (is_of_choice name) _ _ _ _ e.1 (second (is_of_flow name) _ _ _ _ e.2 (second (is_of_unit name) _ _ _ _ e.3 (second (is_of_spec name) _ _ _ _ e.4 (second (is_of_string name) _ _ _ _ e.5 (first (is_of_tree name) _ _ _ _ e.6 x))))))
+
+  pub by_pattern : (name : Macro) → IsTrue (is_pattern name) → Expands old new k specials args (tree_clause name) (tree_visits name) prints → Expands old new k specials args (clause name) (visits name) prints
+  unfolding clause
+  by_pattern name h x =
+      let e = pattern_of name h in
+      second (is_of_descr name) _ _ _ _ e.0 (second (is_of_choice name) _ _ _ _ e.1 (second (is_of_flow name) _ _ _ _ e.2 (second (is_of_unit name) _ _ _ _ e.3 (second (is_of_spec name) _ _ _ _ e.4 (second (is_of_string name) _ _ _ _ e.5 (first (is_of_tree name) _ _ _ _ e.6 x))))))
+
+  pub by_table : (name : Macro) → IsTrue (is_table name) → Expands old new k specials args (table_clause name) (table_visits name) prints → Expands old new k specials args (clause name) (visits name) prints
+  unfolding clause
+  by_table name h x =
+      let e = table_of name h in
+      second (is_of_descr name) _ _ _ _ e.0 (second (is_of_choice name) _ _ _ _ e.1 (second (is_of_flow name) _ _ _ _ e.2 (second (is_of_unit name) _ _ _ _ e.3 (second (is_of_spec name) _ _ _ _ e.4 (second (is_of_string name) _ _ _ _ e.5 (second (is_of_tree name) _ _ _ _ e.6 (first (is_of_table name) _ _ _ _ e.7 x)))))))
+
   -- of a statement that names a format
   first_in : (b : Bool) (c d : Site → State → Effect) (v w : Site → State → ℕ) → b ≡ true → ExpandsIn old new k specials args c v prints → ExpandsIn old new k specials args (if b then c else d) (if b then v else w) prints
   first_in true c d v w e x = x
@@ -146,4 +198,4 @@ module _ {old new : MicroCode} {k : ℕ} {specials : Specials} {args : List Arg}
       let e = output_of name h in
       second_in (is_of_descr name) _ _ _ _ e.0 (second_in (is_of_choice name) _ _ _ _ e.1 (second_in (is_of_flow name) _ _ _ _ e.2 (first_in (is_of_unit name) _ _ _ _ e.3 x)))
 
-pub ruleset groups = (by_descr, by_choice, by_flow, by_stack, by_control, by_move, by_spec, by_string)
+pub ruleset groups = (by_descr, by_choice, by_flow, by_stack, by_control, by_move, by_spec, by_string, by_tree, by_block, by_pattern, by_table)

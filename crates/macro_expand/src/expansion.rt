@@ -16,6 +16,7 @@ ghost use Rattle.exp_units.specs.InFormats.{ExpandsIn, HasFormat};
 ghost use Rattle.macro_expand.specs.Expanded.{AreExpanded, IsExpandedTo, IsExpansion, RunsAsTheMachine, is_alone, is_expanded, is_here};
 ghost use Rattle.macro_expand.specs.Steps.{StepsWithinCosts};
 
+use exp_blocks::{expand_block, is_block};
 use exp_calls::{expand_call, expand_return, is_call, is_return};
 use exp_choices::{expand_choice, is_choice};
 use exp_control::{expand_control, is_control};
@@ -23,8 +24,11 @@ use exp_descr::expand_descr;
 use exp_flow::{expand_flow, is_flow};
 use exp_spec::{expand_spec, is_spec};
 use exp_stack::{expand_stack, is_stack};
+use exp_tables::{expand_table, is_table};
+use exp_trees::{expand_tree, is_tree};
 use exp_units::{expand_move, expand_output, is_move, is_output};
 use layout_params::Params;
+use pattern_runtime::{expand_pattern, is_pattern};
 use sil_base::{MAX_STATEMENTS, Record};
 use sil_micro::{Code, MAX_PIECE_WEIGHT, law_on_ways};
 use sil_model::{Program, Specials, Statement};
@@ -150,6 +154,14 @@ fn expand_alone(
         expand_spec(alloc, statement, at, specials, code)
     } else if is_string(statement.name) {
         expand_string(alloc, statement, at, specials, code)
+    } else if is_tree(statement.name) {
+        expand_tree(alloc, statement, at, specials, code)
+    } else if is_block(statement.name) {
+        expand_block(alloc, statement, at, specials, code)
+    } else if is_pattern(statement.name) {
+        expand_pattern(alloc, statement, at, specials, code)
+    } else if is_table(statement.name) {
+        expand_table(alloc, statement, at, specials, code)
     } else {
         expand_descr(alloc, statement, at, specials, code)
     }

@@ -129,7 +129,7 @@ static NOT_SAVED: [(&[(&str, &[u8])], u8); 12] = [
         &[
             ("PARAMS", STANDARD_PARAMS),
             ("TABLES", b""),
-            ("SRC", b" TOP X,X,X\nX DESCR\n END\n"),
+            ("SRC", b" STREAD X,X\nX DESCR\n END\n"),
         ],
         16,
     ),

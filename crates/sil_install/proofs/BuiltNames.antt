@@ -1,7 +1,7 @@
 -- The macros that are installed so far are expanded.
 use Rattle.std.proofs.Common.{◌≡◌, true, refl}
 use Rattle.sil_macros.specs.declared.names.Macro.{Macro}
-use Rattle.sil_macros.specs.declared.names.Macro.TheVariants.{Acomp, Acompc, Addlg, Adjust, Adreal, Aeql, Aeqlc, Aeqlic, Apdsp, Bksize, Bkspce, Branch, Branic, Chkval, Date, Decra, Deql, Divide, Dvreal, Endex, Enfile, Exreal, Fshrtn, Getac, Getbal, Getd, Getdc, Getlg, Getlth, Getsiz, Getspc, Incra, Incrv, Init, Intrl, Intspc, Istack, Lcomp, Leqlc, Lexcmp, Link, Load, Locsp, Mnreal, Mnsint, Mova, Movd, Movdic, Movv, Mpreal, Mstime, Mult, Multc, Ordvst, Output, Pop, Proc, Pstack, Push, Putac, Putd, Putdc, Putlg, Putspc, Putvc, Rcall, Rcomp, Realst, Remsp, Resetf, Rewind, Rlint, Rplace, Rrturn, Rsetfi, Sbreal, Selbra, Setac, Setav, Setf, Setfi, Setlc, Setsiz, Setsp, Setva, Setvc, Shortn, Spcint, Spop, Spreal, Spush, Subsp, Subtrt, Sum, Testf, Testfi, Trimsp, Unload, Varid, Vcmpic, Veql, Veqlc}
+use Rattle.sil_macros.specs.declared.names.Macro.TheVariants.{Acomp, Acompc, Addlg, Addsib, Addson, Adjust, Adreal, Aeql, Aeqlc, Aeqlic, Apdsp, Bksize, Bkspce, Branch, Branic, Chkval, Clertb, Cpypat, Date, Decra, Deql, Divide, Dvreal, Endex, Enfile, Exreal, Fshrtn, Getac, Getbal, Getd, Getdc, Getlg, Getlth, Getsiz, Getspc, Incra, Incrv, Init, Insert, Intrl, Intspc, Istack, Lcomp, Leqlc, Lexcmp, Link, Linkor, Load, Locapt, Locapv, Locsp, Lvalue, Maknod, Mnreal, Mnsint, Mova, Movd, Movdic, Movv, Mpreal, Mstime, Mult, Multc, Ordvst, Output, Plugtb, Pop, Proc, Pstack, Push, Putac, Putd, Putdc, Putlg, Putspc, Putvc, Rcall, Rcomp, Realst, Remsp, Resetf, Rewind, Rlint, Rplace, Rrturn, Rsetfi, Sbreal, Selbra, Setac, Setav, Setf, Setfi, Setlc, Setsiz, Setsp, Setva, Setvc, Shortn, Spcint, Spop, Spreal, Spush, Stream, Subsp, Subtrt, Sum, Testf, Testfi, Top, Trimsp, Unload, Varid, Vcmpic, Veql, Veqlc}
 use Rattle.sil_program.specs.Built.{is_built}
 use Rattle.macro_expand.specs.Expanded.{is_expanded}
 
@@ -10,6 +10,8 @@ unfolding is_built
 built_is_expanded Acomp h = refl
 built_is_expanded Acompc h = refl
 built_is_expanded Addlg h = refl
+built_is_expanded Addsib h = refl
+built_is_expanded Addson h = refl
 built_is_expanded Adjust h = refl
 built_is_expanded Adreal h = refl
 built_is_expanded Aeql h = refl
@@ -21,6 +23,8 @@ built_is_expanded Bkspce h = refl
 built_is_expanded Branch h = refl
 built_is_expanded Branic h = refl
 built_is_expanded Chkval h = refl
+built_is_expanded Clertb h = refl
+built_is_expanded Cpypat h = refl
 built_is_expanded Date h = refl
 built_is_expanded Decra h = refl
 built_is_expanded Deql h = refl
@@ -41,6 +45,7 @@ built_is_expanded Getspc h = refl
 built_is_expanded Incra h = refl
 built_is_expanded Incrv h = refl
 built_is_expanded Init h = refl
+built_is_expanded Insert h = refl
 built_is_expanded Intrl h = refl
 built_is_expanded Intspc h = refl
 built_is_expanded Istack h = refl
@@ -48,8 +53,13 @@ built_is_expanded Lcomp h = refl
 built_is_expanded Leqlc h = refl
 built_is_expanded Lexcmp h = refl
 built_is_expanded Link h = refl
+built_is_expanded Linkor h = refl
 built_is_expanded Load h = refl
+built_is_expanded Locapt h = refl
+built_is_expanded Locapv h = refl
 built_is_expanded Locsp h = refl
+built_is_expanded Lvalue h = refl
+built_is_expanded Maknod h = refl
 built_is_expanded Mnreal h = refl
 built_is_expanded Mnsint h = refl
 built_is_expanded Mova h = refl
@@ -62,6 +72,7 @@ built_is_expanded Mult h = refl
 built_is_expanded Multc h = refl
 built_is_expanded Ordvst h = refl
 built_is_expanded Output h = refl
+built_is_expanded Plugtb h = refl
 built_is_expanded Pop h = refl
 built_is_expanded Proc h = refl
 built_is_expanded Pstack h = refl
@@ -98,11 +109,13 @@ built_is_expanded Spcint h = refl
 built_is_expanded Spop h = refl
 built_is_expanded Spreal h = refl
 built_is_expanded Spush h = refl
+built_is_expanded Stream h = refl
 built_is_expanded Subsp h = refl
 built_is_expanded Subtrt h = refl
 built_is_expanded Sum h = refl
 built_is_expanded Testf h = refl
 built_is_expanded Testfi h = refl
+built_is_expanded Top h = refl
 built_is_expanded Trimsp h = refl
 built_is_expanded Unload h = refl
 built_is_expanded Varid h = refl

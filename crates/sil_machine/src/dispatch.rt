@@ -15,6 +15,7 @@ use crate::site::Site;
 use crate::stack::{istack, pop, pstack, push, spop, spush};
 use crate::system::{init, mstime};
 use crate::units::{backspace, endfile, output, rewind};
+use crate::walks::{is_walk, perform_walk};
 use choice_clauses::{
     acomp, acompc, aeql, aeqlc, aeqlic, chkval, deql, divide, lcomp, leqlc, mnsint, mult, multc,
     subtrt, sum, testf, testfi, vcmpic, veql, veqlc,
@@ -32,7 +33,6 @@ use spec_clauses::{
     shortn, subsp,
 };
 use std::alloc::Global;
-use string_clauses::{apdsp, date, getbal, intspc, lexcmp, rplace, spcint, trimsp, varid};
 use unit_io::UnitSet;
 
 /// What a statement does whose macro calls a unit.
@@ -62,12 +62,15 @@ fn perform_on_units<U: UnitSet>(
 }
 
 /// What a statement does whose macro calls no unit.
-#[tactic(auto, unfolding(sil_runs::specs::Table::clause, descr_clauses::specs::DescrTable::descr_clause, choice_clauses::specs::ChoiceTable::choice_clause, flow_clauses::specs::FlowTable::flow_clause, unit_clauses::specs::UnitTable::unit_clause, spec_clauses::specs::SpecTable::spec_clause, string_clauses::specs::StringTable::string_clause, flow_clauses::specs::FlowClauses::nothing, flow_clauses::specs::FlowClauses::trap))]
+#[tactic(auto, unfolding(sil_runs::specs::Table::clause, descr_clauses::specs::DescrTable::descr_clause, choice_clauses::specs::ChoiceTable::choice_clause, flow_clauses::specs::FlowTable::flow_clause, unit_clauses::specs::UnitTable::unit_clause, spec_clauses::specs::SpecTable::spec_clause, flow_clauses::specs::FlowClauses::nothing, flow_clauses::specs::FlowClauses::trap))]
 fn perform_alone(name: Macro, site: &Site, steps: u64, parts: &mut Parts) -> Option<Flow>
     requires few { steps ≤ MAX_STEPS }
     requires alone { calls_unit name ≡ false }
     ensures { (k : ℕ) (tapes : Tapes) → clause name site.now (state_of k steps parts.old tapes) ≡ left_by result (state_of k steps parts.new tapes) }
 {
+    if is_walk(name) {
+        return perform_walk(name, site, parts);
+    }
     match name {
         Macro::Acomp => acomp(site.args(), &parts.cells),
         Macro::Acompc => acompc(site.args(), &parts.cells),
@@ -76,24 +79,16 @@ fn perform_alone(name: Macro, site: &Site, steps: u64, parts: &mut Parts) -> Opt
         Macro::Aeql => aeql(site.args(), &parts.cells),
         Macro::Aeqlc => aeqlc(site.args(), &parts.cells),
         Macro::Aeqlic => aeqlic(site.args(), &parts.cells),
-        Macro::Apdsp => apdsp(site.args(), &mut parts.cells),
         Macro::Bksize => bksize(site.args(), site.params(), &mut parts.cells),
         Macro::Branch => branch(site.args(), &parts.cells),
         Macro::Branic => branic(site, &parts.cells),
         Macro::Chkval => chkval(site.args(), &parts.cells),
-        Macro::Date => date(
-            site.hidden(),
-            &site.params().date(),
-            site.args(),
-            &mut parts.cells,
-        ),
         Macro::Decra => decra(site.args(), &mut parts.cells),
         Macro::Deql => deql(site.args(), &parts.cells),
         Macro::Divide => divide(site.args(), &mut parts.cells),
         Macro::Endex => endex(site.args(), &parts.cells),
         Macro::Fshrtn => fshrtn(site.args(), &mut parts.cells),
         Macro::Getac => getac(site.args(), &mut parts.cells),
-        Macro::Getbal => getbal(site.args(), &mut parts.cells),
         Macro::Getd => getd(site.args(), &mut parts.cells),
         Macro::Getdc => getdc(site.args(), &mut parts.cells),
         Macro::Getlg => getlg(site.args(), &mut parts.cells),
@@ -103,11 +98,9 @@ fn perform_alone(name: Macro, site: &Site, steps: u64, parts: &mut Parts) -> Opt
         Macro::Incra => incra(site.args(), &mut parts.cells),
         Macro::Incrv => incrv(site.args(), &mut parts.cells),
         Macro::Init => init(site, &mut parts.cells),
-        Macro::Intspc => intspc(site.hidden(), site.args(), &mut parts.cells),
         Macro::Istack => istack(site, parts),
         Macro::Lcomp => lcomp(site.args(), &parts.cells),
         Macro::Leqlc => leqlc(site.args(), &parts.cells),
-        Macro::Lexcmp => lexcmp(site.args(), &mut parts.cells),
         Macro::Load => load(site.args(), &parts.cells),
         Macro::Locsp => locsp(site.args(), &mut parts.cells),
         Macro::Mnsint => mnsint(site.args(), &mut parts.cells),
@@ -130,7 +123,6 @@ fn perform_alone(name: Macro, site: &Site, steps: u64, parts: &mut Parts) -> Opt
         Macro::Rcall => rcall(site, parts),
         Macro::Remsp => remsp(site.args(), &mut parts.cells),
         Macro::Resetf => resetf(site.args(), &mut parts.cells),
-        Macro::Rplace => rplace(site.args(), &mut parts.cells),
         Macro::Rrturn => rrturn(site, parts),
         Macro::Rsetfi => rsetfi(site.args(), &mut parts.cells),
         Macro::Selbra => selbra(site.args(), &parts.cells),
@@ -144,7 +136,6 @@ fn perform_alone(name: Macro, site: &Site, steps: u64, parts: &mut Parts) -> Opt
         Macro::Setva => setva(site.args(), &mut parts.cells),
         Macro::Setvc => setvc(site.args(), &mut parts.cells),
         Macro::Shortn => shortn(site.args(), &mut parts.cells),
-        Macro::Spcint => spcint(site.specials().int_code, site.args(), &mut parts.cells),
         Macro::Spop => spop(site, parts),
         Macro::Spush => spush(site, parts),
         Macro::Subsp => subsp(site.args(), &mut parts.cells),
@@ -152,8 +143,6 @@ fn perform_alone(name: Macro, site: &Site, steps: u64, parts: &mut Parts) -> Opt
         Macro::Sum => sum(site.args(), &mut parts.cells),
         Macro::Testf => testf(site.args(), &parts.cells),
         Macro::Testfi => testfi(site.args(), &parts.cells),
-        Macro::Trimsp => trimsp(site.args(), &mut parts.cells),
-        Macro::Varid => varid(site.params().bucket_count(), site.args(), &mut parts.cells),
         Macro::Vcmpic => vcmpic(site.args(), &parts.cells),
         Macro::Veql => veql(site.args(), &parts.cells),
         Macro::Veqlc => veqlc(site.args(), &parts.cells),

@@ -11,8 +11,8 @@ mod site;
 mod stack;
 mod state;
 mod system;
-mod tables;
 mod units;
+mod walks;
 
 pub use machine::{Machine, Step, start};
 pub use sil_model::{

@@ -10,11 +10,11 @@ ghost use Rattle.sil_machine.specs.Positions.{position_of};
 
 use crate::parts::Parts;
 use crate::state::{Position, run};
-use crate::tables::Tables;
 use layout_params::Params;
 use sil_base::MAX_STEPS;
 use sil_model::{Cells, End, Program, limits_of};
 use std::alloc::{AllocError, Global};
+use table_clauses::Tables;
 use unit_io::UnitSet;
 
 /// Where a run starts.

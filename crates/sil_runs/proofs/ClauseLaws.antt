@@ -20,6 +20,10 @@ use Rattle.spec_clauses.specs.SpecTable.{is_of_spec}
 use Rattle.spec_clauses.proofs.SpecLaws.{spec_lawful}
 use Rattle.string_clauses.specs.StringTable.{is_of_string}
 use Rattle.string_clauses.proofs.StringLaws.{string_lawful}
+use Rattle.tree_clauses.specs.TreeTable.{is_of_tree}
+use Rattle.tree_clauses.proofs.TreeLaws.{tree_lawful}
+use Rattle.table_clauses.specs.SyntaxTable.{is_of_table}
+use Rattle.table_clauses.proofs.SyntaxLaws.{table_lawful}
 use Rattle.sil_runs.specs.Table.{clause}
 use Rattle.sil_runs.specs.Costs.{visits}
 
@@ -34,4 +38,4 @@ by_group name false c d v w x y = y
 
 pub lawful : (name : Macro) → IsLawful name (clause name) (visits name)
 unfolding clause
-lawful name = by_group name (is_of_descr name) _ _ _ _ (descr_lawful name) (by_group name (is_of_choice name) _ _ _ _ (choice_lawful name) (by_group name (is_of_flow name) _ _ _ _ (flow_lawful name) (by_group name (is_of_unit name) _ _ _ _ (unit_lawful name) (by_group name (is_of_spec name) _ _ _ _ (spec_lawful name) (by_group name (is_of_string name) _ _ _ _ (string_lawful name) (of_none name))))))
+lawful name = by_group name (is_of_descr name) _ _ _ _ (descr_lawful name) (by_group name (is_of_choice name) _ _ _ _ (choice_lawful name) (by_group name (is_of_flow name) _ _ _ _ (flow_lawful name) (by_group name (is_of_unit name) _ _ _ _ (unit_lawful name) (by_group name (is_of_spec name) _ _ _ _ (spec_lawful name) (by_group name (is_of_string name) _ _ _ _ (string_lawful name) (by_group name (is_of_tree name) _ _ _ _ (tree_lawful name) (by_group name (is_of_table name) _ _ _ _ (table_lawful name) (of_none name))))))))

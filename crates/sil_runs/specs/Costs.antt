@@ -14,10 +14,12 @@ use Rattle.flow_clauses.specs.FlowTable.{is_of_flow, flow_visits}
 use Rattle.unit_clauses.specs.UnitTable.{is_of_unit, unit_visits}
 use Rattle.spec_clauses.specs.SpecTable.{is_of_spec, spec_visits}
 use Rattle.string_clauses.specs.StringTable.{is_of_string, string_visits}
+use Rattle.tree_clauses.specs.TreeTable.{is_of_tree, tree_visits}
+use Rattle.table_clauses.specs.SyntaxTable.{is_of_table, table_visits}
 
 -- the visits that the clause of a macro makes
 abbrev pub visits : Macro → Site → State → ℕ
-visits name = if is_of_descr name then descr_visits name else (if is_of_choice name then choice_visits name else (if is_of_flow name then flow_visits name else (if is_of_unit name then unit_visits name else (if is_of_spec name then spec_visits name else (if is_of_string name then string_visits name else (λ site s. 0))))))
+visits name = if is_of_descr name then descr_visits name else (if is_of_choice name then choice_visits name else (if is_of_flow name then flow_visits name else (if is_of_unit name then unit_visits name else (if is_of_spec name then spec_visits name else (if is_of_string name then string_visits name else (if is_of_tree name then tree_visits name else (if is_of_table name then table_visits name else (λ site s. 0))))))))
 
 unfoldable pub weight : Program → Parameters → Statement → State → ℕ
 weight program parameters statement s = operand_count statement.args + visits statement.name (site_of program parameters s.statement statement) s

@@ -2,4 +2,5 @@ mod LoopLaws
 mod Since
 mod NodeLaws
 mod PatternLaws
+mod GreatPowers
 pub mod TreeLaws

@@ -1,5 +1,5 @@
 use Rattle.std.proofs.Common.{◌≡◌, take}
-use Rattle.sil_machine.proofs.tables.Tables.of.Given as goal
+use Rattle.table_clauses.proofs.tables.Tables.of.Given as goal
 
 -- the tables so far
 abbrev pub invariant-loop-table : goal.invariant-loop-table

@@ -1,0 +1,21 @@
+use Rattle.std.proofs.Common.{ℕ, ◌+◌, ◌*◌, ◌^◌, ◌<◌, arith, lit≤, refl}
+use Rattle.std.proofs.lemmas.Int.{to_z-of_z, to_z_pos}
+use Rattle.sil_micro.specs.TableWords.{action_number}
+use Rattle.exp_tables.specs.TableParts.{clear_code}
+use Rattle.exp_tables.proofs.Clearing.{clertb_does}
+use Rattle.exp_tables.proofs.EntryWords.{action_small}
+use Rattle.exp_tables.proofs.changes.clertb.Goals as goal
+
+pub returns : goal.returns
+unfolding clear_code
+returns c =
+    let small : 512 * c.args.t < 2 ^ 63 = omega arith in
+    let past : 512 * c.args.t + 512 < 2 ^ 63 = omega arith in
+    let low : action_number c.args.key < 2 ^ 63 = omega (arith, action_small c.args.key) in
+    let stands = simp (to_z-of_z, to_z_pos, small, past, low, c.begin_statement.ensures, c.first_word-first.ensures, c.past_words-past.ensures, c.action_number-action.ensures) at c.in_ok-append.ensures.appends in
+    record {
+      piece = clear_code c.args.k c.args.t (action_number c.args.key);
+      stands = stands;
+      is_piece = record { part = refl; begins = refl; once = refl; names = refl; quiet = refl; light = lit≤ tt };
+      does = clertb_does c.args.k c.args.t c.args.key c.args.specials.now;
+    }

@@ -1,0 +1,5 @@
+mod CellSizes
+mod TreeHeads
+mod Linking
+mod Inserting
+mod Making

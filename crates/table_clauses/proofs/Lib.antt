@@ -1,0 +1,5 @@
+pub mod Walking
+pub mod TablesKept
+pub mod StreamsKept
+pub mod SyntaxVisits
+pub mod SyntaxLaws

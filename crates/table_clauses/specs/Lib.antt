@@ -1,0 +1,3 @@
+pub mod SyntaxClauses
+pub mod SyntaxTable
+pub mod HaltBounds
