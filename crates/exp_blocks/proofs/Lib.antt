@@ -1,1 +1,4 @@
+mod CellPlaces
+mod CharCopies
+mod BlockMoves
 mod Titling

@@ -25,7 +25,7 @@ use Rattle.tree_clauses.specs.TreeTable.{title_visits, tree_clause, tree_visits}
 use Rattle.exp_blocks.specs.BlockParts.{title_code}
 
 -- the step that an effect on memory makes
-abbrev after_memory : State → MemoryEffect → Step
+abbrev pub after_memory : State → MemoryEffect → Step
 after_memory before effect = settle before (with_memory before effect)
 
 module _ (g : Setting) (k : ℕ) (d1 d2 d3 : ℤ) (before : State) (valid : IsMemory before.memory) (failed : Option ℕ) (words : ℕ → ℤ) (r : Registers) (from : ℤ) (f v flag : ℕ) (small_flag : flag < 2 ^ 32)

@@ -9,6 +9,7 @@ ghost use Rattle.sil_micro.specs.Pieces.{weights};
 ghost use Rattle.exp_blocks.specs.Group.{is_block};
 ghost use Rattle.exp_common.specs.Locations.{LocatesWithin};
 
+use crate::moves::movblk;
 use crate::operands::three_places;
 use crate::titles::top;
 use sil_base::MAX_STATEMENTS;
@@ -21,7 +22,7 @@ use std::alloc::{AllocError, Global};
 pub fn is_block(name: Macro) -> bool
     ensures { result ≡ is_block name }
 {
-    matches!(name, Macro::Top)
+    matches!(name, Macro::Movblk | Macro::Top)
 }
 
 /// Expands statement number `at`. After an error the code may have a part of the statement's
@@ -45,6 +46,10 @@ pub fn expand_block(
     has_room(code, at);
     let args = statement.args.items();
     match statement.name {
+        Macro::Movblk => {
+            let (d1, d2, d3) = three_places(args);
+            movblk(code, at, specials, d1, d2, d3)
+        }
         Macro::Top => {
             let (d1, d2, d3) = three_places(args);
             top(code, at, specials, d1, d2, d3)

@@ -2,6 +2,7 @@
 #![tactic(auto)]
 
 mod expansion;
+mod moves;
 mod operands;
 mod titles;
 

@@ -1,9 +1,9 @@
 -- Every entry of a table gets an action.
-use Rattle.std.proofs.Common.{◌≡◌, ℕ, zero, suc, ◌+◌, ◌*◌, ◌≤◌, ◌<◌, ◌^◌, List, [], ◌∷◌, ◌++◌, length, replicate, take, Option, Some, true, false, refl, ap, sym, subst, ◌∙◌, arith, lit≤}
+use Rattle.std.proofs.Common.{◌≡◌, ℕ, zero, suc, ◌+◌, ◌*◌, ◌≤◌, ◌<◌, List, [], ◌∷◌, ◌++◌, length, replicate, take, Option, Some, true, false, refl, ap, sym, subst, ◌∙◌, arith, lit≤}
 use Rattle.std.proofs.Math.ListN.{length-set}
 use Rattle.std.proofs.lemmas.Bool.Decides.{nat_tests}
 use Rattle.std.proofs.lemmas.List.{take_more_set}
-use Rattle.std.specs.Prelude.{ℤ, pos, nat_eq, slice_get, slice_set}
+use Rattle.std.specs.Prelude.{ℤ, pos, nat_eq, slice_set}
 use Rattle.sil_macros.specs.declared.names.Macro.TheVariants.{Clertb}
 use Rattle.sil_model.specs.declared.program.Arg.TheVariants.{Absent, Key, Table as TableNumber}
 use Rattle.sil_model.specs.declared.program.Flow.TheVariants.{Next}
@@ -13,7 +13,7 @@ use Rattle.sil_model.specs.declared.table.Entry.{Entry}
 use Rattle.sil_model.specs.declared.table.Table.{Table}
 use Rattle.sil_model.specs.Fits.{bounds_of}
 use Rattle.sil_model.specs.Integers.{wrapped_sum}
-use Rattle.sil_model.specs.States.{State, Step}
+use Rattle.sil_model.specs.States.{State}
 use Rattle.sil_model.specs.WellFormed.{IsEntry, IsTable}
 use Rattle.sil_model.proofs.Keeps.{all_at}
 use Rattle.sil_micro.specs.Expands.{Does, Makes, at}
@@ -25,7 +25,7 @@ use Rattle.table_clauses.specs.SyntaxTable.{table_clause, table_visits}
 use Rattle.table_clauses.proofs.TablesKept.{AreEntries, entry_set}
 use Rattle.exp_tables.specs.TableParts.{clear_code}
 use Rattle.exp_tables.proofs.Effects.{after_change}
-use Rattle.exp_tables.proofs.EntryWords.{IsPlain, action_set, in_table, key_plain, plain_good, put_set, set_same, there, zeroed_entry}
+use Rattle.exp_tables.proofs.EntryWords.{IsPlain, action_set, in_table, key_plain, plain_good, put_set, set_same, there}
 use Rattle.exp_tables.proofs.Arithmetic.{add_pos}
 
 -- ---- entries that are set one after another

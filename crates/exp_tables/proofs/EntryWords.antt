@@ -1,5 +1,5 @@
 -- The words of an entry, read and set. Those of character c in table t have the numbers 512 * t + 2 * c and the next.
-use Rattle.std.proofs.Common.{◌≡◌, ℕ, zero, suc, ◌+◌, ◌*◌, ◌/◌, ◌%◌, ◌<◌, ◌≤◌, List, [], ◌∷◌, length, Option, Some, None, true, false, refl, ap, subst, ◌∙◌, arith}
+use Rattle.std.proofs.Common.{◌≡◌, ℕ, zero, suc, ◌+◌, ◌*◌, ◌/◌, ◌%◌, ◌<◌, List, [], ◌∷◌, length, Option, Some, None, true, refl, ap, arith}
 use Rattle.std.proofs.Math.ListN.{length-set}
 use Rattle.std.proofs.lemmas.Bool.Decides.{nat_tests}
 use Rattle.std.proofs.lemmas.Option.{same_Some}
@@ -13,7 +13,7 @@ use Rattle.sil_model.specs.Fits.{Bounds, IsWithin}
 use Rattle.sil_model.specs.WellFormed.{GoesWithin, IsEntry, IsTable}
 use Rattle.sil_model.proofs.Keeps.{all_at}
 use Rattle.sil_model.proofs.Places.{set_here}
-use Rattle.sil_micro.specs.TableWords.{action_number, action_word, entry_of, next_table, put_word, puts, set_table_word, table_word}
+use Rattle.sil_micro.specs.TableWords.{action_number, action_word, entry_of, put_word, puts, set_table_word, table_word}
 use Rattle.table_clauses.specs.SyntaxClauses.{entry_in, plain}
 use Rattle.table_clauses.proofs.StreamsKept.{entry_good}
 use Rattle.table_clauses.proofs.TablesKept.{AreTables}

@@ -1,5 +1,5 @@
 -- What a walk leaves, and where it goes.
-use Rattle.std.proofs.Common.{◌≡◌, ℕ, ◌+◌, ◌-◌, ◌≤◌, ◌<◌, ◌^◌, List, Option, Some, None, Bool, true, false, refl, arith}
+use Rattle.std.proofs.Common.{◌≡◌, ℕ, ◌+◌, ◌-◌, ◌≤◌, ◌<◌, ◌^◌, List, Option, Some, Bool, true, false, refl, arith}
 use Rattle.std.specs.Prelude.{ℤ, pos, ◌-ℤ◌}
 use Rattle.layout_params.specs.declared.cell.Cell.TheVariants.{Descr as Describes}
 use Rattle.sil_model.specs.declared.program.Flow.{Flow}

@@ -1,6 +1,6 @@
 -- The entries of the characters of a string get an action.
-use Rattle.std.proofs.Common.{◌≡◌, ℕ, zero, suc, ◌+◌, ◌*◌, ◌≤◌, ◌<◌, ◌^◌, List, [], ◌∷◌, length, Option, Some, None, true, false, refl, sym, subst, arith, lit≤}
-use Rattle.std.specs.Prelude.{ℤ, pos, nat_eq, slice_get, slice_set}
+use Rattle.std.proofs.Common.{◌≡◌, ℕ, zero, suc, ◌+◌, ◌*◌, ◌≤◌, ◌<◌, ◌^◌, List, [], ◌∷◌, length, Option, Some, true, false, refl, sym, subst, arith, lit≤}
+use Rattle.std.specs.Prelude.{ℤ, pos, nat_eq, slice_set}
 use Rattle.layout_params.specs.Parameters.{Parameters}
 use Rattle.sil_macros.specs.declared.names.Macro.TheVariants.{Plugtb}
 use Rattle.sil_model.specs.declared.program.Arg.TheVariants.{Absent, Key, Place, Table as TableNumber}

@@ -1,19 +1,18 @@
 -- A walk over a specifier, from its reads to what it leaves.
-use Rattle.std.proofs.Common.{◌≡◌, ℕ, ◌+◌, ◌*◌, ◌≤◌, ◌<◌, ◌^◌, List, [], ◌∷◌, length, Option, Some, None, true, false, refl, ap, sym, subst, ◌∙◌, arith, lit≤}
+use Rattle.std.proofs.Common.{◌≡◌, ℕ, ◌+◌, ◌*◌, ◌≤◌, ◌<◌, List, [], ◌∷◌, length, Option, Some, None, true, false, refl, ap, sym, subst, ◌∙◌, arith, lit≤}
 use Rattle.std.specs.Prelude.{ℤ, pos, nat_le, All}
 use Rattle.sil_macros.specs.declared.names.Macro.TheVariants.{Stream}
 use Rattle.sil_model.specs.declared.program.Arg.TheVariants.{Absent, Goto, Place, Table as TableNumber}
 use Rattle.sil_model.specs.declared.program.Specials.{Specials}
 use Rattle.sil_model.specs.declared.specifier.Specifier.{Specifier}
-use Rattle.sil_model.specs.Access.{◌>>=◌}
 use Rattle.sil_model.specs.Integers.{◌⊞◌}
 use Rattle.sil_model.specs.Specifiers.{FitsSpec}
 use Rattle.sil_model.specs.States.{State}
 use Rattle.sil_model.specs.WellFormed.{IsTable}
 use Rattle.sil_model.proofs.Lists.{spec_fits}
 use Rattle.sil_micro.specs.declared.op.Op.{Op}
-use Rattle.sil_micro.specs.Expands.{Does, IsPiece, Makes, at}
-use Rattle.sil_micro.specs.MicroStates.{Setting, Micro, Registers}
+use Rattle.sil_micro.specs.Expands.{Does, IsPiece, at}
+use Rattle.sil_micro.specs.MicroStates.{Registers}
 use Rattle.sil_micro.specs.Pieces.{joined}
 use Rattle.sil_micro.proofs.Making.{more, by_way, then_part}
 use Rattle.exp_common.specs.Locations.{lead}

@@ -1,11 +1,9 @@
 -- The walk over characters by syntax tables.
 use Rattle.std.proofs.Common.{◌≡◌, ℕ, zero, suc, ◌+◌, ◌*◌, ◌/◌, ◌%◌, ◌≤◌, ◌<◌, ◌^◌, List, length, Option, Some, None, Bool, true, false, refl, arith}
 use Rattle.std.specs.Prelude.{ℤ, pos, nat_eq}
-use Rattle.std.specs.declared.ops.ControlFlow.TheVariants.{Continue, Break}
 use Rattle.sil_model.specs.declared.specifier.Specifier.{Specifier}
 use Rattle.sil_model.specs.declared.table.Action.{Action}
 use Rattle.sil_model.specs.declared.table.Action.TheVariants.{Contin, Goto, Stop, Stopsh, Error}
-use Rattle.sil_model.specs.declared.table.Table.{Table}
 use Rattle.sil_model.specs.Access.{◌>>=◌, char_at, set_a_at}
 use Rattle.sil_model.specs.Arguments.{flow_to}
 use Rattle.sil_model.specs.Effects.{MemoryEffect, leads}
@@ -18,7 +16,7 @@ use Rattle.sil_micro.specs.Expands.{Makes}
 use Rattle.sil_micro.specs.MicroStates.{Setting, Micro, Registers}
 use Rattle.sil_micro.specs.MicroWords.{quotient, remainder}
 use Rattle.sil_micro.specs.Pieces.{joined, is_part}
-use Rattle.sil_micro.specs.TableWords.{action_number, action_word, next_table, put_word, puts}
+use Rattle.sil_micro.specs.TableWords.{action_number, next_table, put_word, puts}
 use Rattle.sil_micro.proofs.Making.{by_option, more, by_way, then_part}
 use Rattle.exp_common.specs.Locations.{lead}
 use Rattle.exp_common.proofs.Leads.{goes_to}

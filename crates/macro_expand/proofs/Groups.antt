@@ -2,7 +2,7 @@
 use Rattle.std.proofs.Common.{◌≡◌, ℕ, Bool, true, false, List, refl, arith}
 use Rattle.std.specs.Prelude.{IsTrue, if◌then◌else◌}
 use Rattle.sil_macros.specs.declared.names.Macro.{Macro}
-use Rattle.sil_macros.specs.declared.names.Macro.TheVariants.{Acomp, Addlg, Addsib, Adjust, Apdsp, Branch, Endex, Linkor, Output, Push, Rewind, Stream, Top}
+use Rattle.sil_macros.specs.declared.names.Macro.TheVariants.{Acomp, Addlg, Addsib, Adjust, Apdsp, Branch, Endex, Expint, Linkor, Output, Push, Rewind, Stream, Top}
 use Rattle.sil_model.specs.declared.program.Arg.{Arg}
 use Rattle.sil_model.specs.declared.program.Specials.{Specials}
 use Rattle.sil_model.specs.Effects.{Effect}
@@ -29,6 +29,7 @@ use Rattle.exp_units.specs.Group.{is_move, is_output}
 use Rattle.exp_units.specs.InFormats.{ExpandsIn}
 use Rattle.string_runtime.specs.Group.{is_string}
 use Rattle.exp_spec.specs.Group.{is_spec}
+use Rattle.exp_powers.specs.Group.{is_power}
 use Rattle.exp_tables.specs.Group.{is_table}
 use Rattle.pattern_runtime.specs.Group.{is_pattern}
 use Rattle.exp_blocks.specs.Group.{is_block}
@@ -109,6 +110,10 @@ table_of : (name : Macro) → IsTrue (is_table name) → IsTable name
 table_of Stream h = (refl, refl, refl, refl, refl, refl, refl, refl)
 table_of _ h = (grind arith, grind arith, grind arith, grind arith, grind arith, grind arith, grind arith, grind arith)
 
+power_of : (name : Macro) → IsTrue (is_power name) → IsTree name
+power_of Expint h = (refl, refl, refl, refl, refl, refl, refl)
+power_of _ h = (grind arith, grind arith, grind arith, grind arith, grind arith, grind arith, grind arith)
+
 -- ---- so an expansion by the group's table is one by the table
 
 module _ {old new : MicroCode} {k : ℕ} {specials : Specials} {args : List Arg} {prints : Bool} where
@@ -183,6 +188,12 @@ module _ {old new : MicroCode} {k : ℕ} {specials : Specials} {args : List Arg}
       let e = table_of name h in
       second (is_of_descr name) _ _ _ _ e.0 (second (is_of_choice name) _ _ _ _ e.1 (second (is_of_flow name) _ _ _ _ e.2 (second (is_of_unit name) _ _ _ _ e.3 (second (is_of_spec name) _ _ _ _ e.4 (second (is_of_string name) _ _ _ _ e.5 (second (is_of_tree name) _ _ _ _ e.6 (first (is_of_table name) _ _ _ _ e.7 x)))))))
 
+  pub by_power : (name : Macro) → IsTrue (is_power name) → Expands old new k specials args (tree_clause name) (tree_visits name) prints → Expands old new k specials args (clause name) (visits name) prints
+  unfolding clause
+  by_power name h x =
+      let e = power_of name h in
+      second (is_of_descr name) _ _ _ _ e.0 (second (is_of_choice name) _ _ _ _ e.1 (second (is_of_flow name) _ _ _ _ e.2 (second (is_of_unit name) _ _ _ _ e.3 (second (is_of_spec name) _ _ _ _ e.4 (second (is_of_string name) _ _ _ _ e.5 (first (is_of_tree name) _ _ _ _ e.6 x))))))
+
   -- of a statement that names a format
   first_in : (b : Bool) (c d : Site → State → Effect) (v w : Site → State → ℕ) → b ≡ true → ExpandsIn old new k specials args c v prints → ExpandsIn old new k specials args (if b then c else d) (if b then v else w) prints
   first_in true c d v w e x = x
@@ -198,4 +209,4 @@ module _ {old new : MicroCode} {k : ℕ} {specials : Specials} {args : List Arg}
       let e = output_of name h in
       second_in (is_of_descr name) _ _ _ _ e.0 (second_in (is_of_choice name) _ _ _ _ e.1 (second_in (is_of_flow name) _ _ _ _ e.2 (first_in (is_of_unit name) _ _ _ _ e.3 x)))
 
-pub ruleset groups = (by_descr, by_choice, by_flow, by_stack, by_control, by_move, by_spec, by_string, by_tree, by_block, by_pattern, by_table)
+pub ruleset groups = (by_descr, by_choice, by_flow, by_stack, by_control, by_move, by_spec, by_string, by_tree, by_block, by_pattern, by_table, by_power)

@@ -31,6 +31,7 @@ use Rattle.exp_stack.specs.Group.{is_stack}
 use Rattle.exp_units.specs.Group.{is_move, is_output}
 use Rattle.string_runtime.specs.Group.{is_string}
 use Rattle.exp_spec.specs.Group.{is_spec}
+use Rattle.exp_powers.specs.Group.{is_power}
 use Rattle.exp_tables.specs.Group.{is_table}
 use Rattle.pattern_runtime.specs.Group.{is_pattern}
 use Rattle.exp_blocks.specs.Group.{is_block}
@@ -39,7 +40,7 @@ use Rattle.exp_units.specs.InFormats.{DoesIn, ExpandsIn}
 
 -- the macros whose statements make their steps by themselves and name no format, those that may name one, and all that are expanded so far
 abbrev pub is_alone : Macro → Bool
-is_alone name = is_flow name || is_choice name || is_stack name || is_control name || is_move name || is_spec name || is_string name || is_tree name || is_block name || is_pattern name || is_table name || is_descr name
+is_alone name = is_flow name || is_choice name || is_stack name || is_control name || is_move name || is_spec name || is_string name || is_tree name || is_block name || is_pattern name || is_table name || is_power name || is_descr name
 
 abbrev pub is_here : Macro → Bool
 is_here name = is_output name || is_alone name

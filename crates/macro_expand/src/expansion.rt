@@ -22,6 +22,7 @@ use exp_choices::{expand_choice, is_choice};
 use exp_control::{expand_control, is_control};
 use exp_descr::expand_descr;
 use exp_flow::{expand_flow, is_flow};
+use exp_powers::{expand_power, is_power};
 use exp_spec::{expand_spec, is_spec};
 use exp_stack::{expand_stack, is_stack};
 use exp_tables::{expand_table, is_table};
@@ -162,6 +163,8 @@ fn expand_alone(
         expand_pattern(alloc, statement, at, specials, code)
     } else if is_table(statement.name) {
         expand_table(alloc, statement, at, specials, code)
+    } else if is_power(statement.name) {
+        expand_power(alloc, statement, at, specials, code)
     } else {
         expand_descr(alloc, statement, at, specials, code)
     }

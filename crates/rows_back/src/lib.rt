@@ -1,15 +1,8 @@
-// Worked rows of images, instructions and the emulator.
+// Worked rows of instructions: their words, and what each leaves.
 #![tactic(auto)]
 
-#[cfg(test)]
-mod accesses;
-#[cfg(test)]
-mod emulator;
-#[cfg(test)]
-mod model;
+pub mod code;
 #[cfg(test)]
 mod results;
-#[cfg(test)]
-mod units;
 #[cfg(test)]
 mod words;

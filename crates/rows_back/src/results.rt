@@ -1,5 +1,5 @@
 // What single instructions leave, by the RISC-V unprivileged manual.
-use crate::emulator::{end_after, lands, place_after};
+use crate::code::{end_after, lands, place_after};
 use layout_params::ParamStop;
 use rv_emulate::CpuEnd;
 use rv_isa::{BOp, Instr, ROp, encode};

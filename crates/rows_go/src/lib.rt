@@ -1,19 +1,11 @@
-// Worked rows of the command, and the two machines side by side.
+// Worked rows of the commands, and what they save.
 #![tactic(auto)]
 
-#[cfg(test)]
-mod agreement;
 #[cfg(test)]
 mod command;
 #[cfg(test)]
 mod commands;
-#[cfg(test)]
-mod counts;
 pub mod go;
-#[cfg(test)]
-mod machine;
-#[cfg(test)]
-mod programs;
 #[cfg(test)]
 mod saves;
 #[cfg(test)]

@@ -1,4 +1,4 @@
-// Worked rows of what reads and checks a source: cards, symbols, data and programs.
+// Worked rows of what reads and checks a source: files, cards, formats and programs.
 #![tactic(auto)]
 
 #[cfg(test)]
@@ -6,12 +6,7 @@ mod cards;
 #[cfg(test)]
 mod check;
 #[cfg(test)]
-mod data;
-#[cfg(test)]
 mod files;
 #[cfg(test)]
 mod formats;
-#[cfg(test)]
-mod symbols;
-#[cfg(test)]
-mod texts;
+pub mod texts;

@@ -4,6 +4,8 @@
 #[cfg(test)]
 mod changed;
 #[cfg(test)]
+mod layouts;
+#[cfg(test)]
 mod printing;
 #[cfg(test)]
 mod silent;

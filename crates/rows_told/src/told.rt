@@ -50,7 +50,7 @@ const DEMO: &[&str] = &["demo", "6", "0"];
 
 const SUM: &[u8] = b"                1375";
 
-static ROWS: [Row; 20] = [
+static ROWS: [Row; 21] = [
     // the store fails
     fails!(
         HELLO,
@@ -97,6 +97,7 @@ static ROWS: [Row; 20] = [
         b"0 1 OUTPUT\n1 2 ENDEX\n",
         &[b" HELLO"]
     ),
+    fails!(HELLO, GO, &[], &[1], &[], 14, b"", &[b" HELLO"]),
     fails!(HELLO, LIST, &[], &[1], &[], 14, b"", &[]),
     fails!(
         HELLO,

@@ -1,7 +1,7 @@
 -- The macros that are installed so far are expanded.
 use Rattle.std.proofs.Common.{◌≡◌, true, refl}
 use Rattle.sil_macros.specs.declared.names.Macro.{Macro}
-use Rattle.sil_macros.specs.declared.names.Macro.TheVariants.{Acomp, Acompc, Addlg, Addsib, Addson, Adjust, Adreal, Aeql, Aeqlc, Aeqlic, Apdsp, Bksize, Bkspce, Branch, Branic, Chkval, Clertb, Cpypat, Date, Decra, Deql, Divide, Dvreal, Endex, Enfile, Exreal, Fshrtn, Getac, Getbal, Getd, Getdc, Getlg, Getlth, Getsiz, Getspc, Incra, Incrv, Init, Insert, Intrl, Intspc, Istack, Lcomp, Leqlc, Lexcmp, Link, Linkor, Load, Locapt, Locapv, Locsp, Lvalue, Maknod, Mnreal, Mnsint, Mova, Movd, Movdic, Movv, Mpreal, Mstime, Mult, Multc, Ordvst, Output, Plugtb, Pop, Proc, Pstack, Push, Putac, Putd, Putdc, Putlg, Putspc, Putvc, Rcall, Rcomp, Realst, Remsp, Resetf, Rewind, Rlint, Rplace, Rrturn, Rsetfi, Sbreal, Selbra, Setac, Setav, Setf, Setfi, Setlc, Setsiz, Setsp, Setva, Setvc, Shortn, Spcint, Spop, Spreal, Spush, Stream, Subsp, Subtrt, Sum, Testf, Testfi, Top, Trimsp, Unload, Varid, Vcmpic, Veql, Veqlc}
+use Rattle.sil_macros.specs.declared.names.Macro.TheVariants.{Acomp, Acompc, Addlg, Addsib, Addson, Adjust, Adreal, Aeql, Aeqlc, Aeqlic, Apdsp, Bksize, Bkspce, Branch, Branic, Chkval, Clertb, Cpypat, Date, Decra, Deql, Divide, Dvreal, Endex, Enfile, Expint, Exreal, Fshrtn, Getac, Getbal, Getd, Getdc, Getlg, Getlth, Getsiz, Getspc, Incra, Incrv, Init, Insert, Intrl, Intspc, Istack, Lcomp, Leqlc, Lexcmp, Link, Linkor, Load, Locapt, Locapv, Locsp, Lvalue, Maknod, Mnreal, Mnsint, Mova, Movblk, Movd, Movdic, Movv, Mpreal, Mstime, Mult, Multc, Ordvst, Output, Plugtb, Pop, Proc, Pstack, Push, Putac, Putd, Putdc, Putlg, Putspc, Putvc, Rcall, Rcomp, Realst, Remsp, Resetf, Rewind, Rlint, Rplace, Rrturn, Rsetfi, Sbreal, Selbra, Setac, Setav, Setf, Setfi, Setlc, Setsiz, Setsp, Setva, Setvc, Shortn, Spcint, Spop, Spreal, Spush, Stream, Subsp, Subtrt, Sum, Testf, Testfi, Top, Trimsp, Unload, Varid, Vcmpic, Veql, Veqlc}
 use Rattle.sil_program.specs.Built.{is_built}
 use Rattle.macro_expand.specs.Expanded.{is_expanded}
 
@@ -32,6 +32,7 @@ built_is_expanded Divide h = refl
 built_is_expanded Dvreal h = refl
 built_is_expanded Endex h = refl
 built_is_expanded Enfile h = refl
+built_is_expanded Expint h = refl
 built_is_expanded Exreal h = refl
 built_is_expanded Fshrtn h = refl
 built_is_expanded Getac h = refl
@@ -63,6 +64,7 @@ built_is_expanded Maknod h = refl
 built_is_expanded Mnreal h = refl
 built_is_expanded Mnsint h = refl
 built_is_expanded Mova h = refl
+built_is_expanded Movblk h = refl
 built_is_expanded Movd h = refl
 built_is_expanded Movdic h = refl
 built_is_expanded Movv h = refl

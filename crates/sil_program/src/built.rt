@@ -5,7 +5,7 @@ ghost use Rattle.sil_program.specs.Built.{is_built};
 use sil_macros::{Macro, number_of_macro};
 
 /// The macros that are installed so far.
-pub const BUILT: [Macro; 115] = [
+pub const BUILT: [Macro; 117] = [
     Macro::Acomp,
     Macro::Acompc,
     Macro::Addlg,
@@ -31,6 +31,7 @@ pub const BUILT: [Macro; 115] = [
     Macro::Dvreal,
     Macro::Endex,
     Macro::Enfile,
+    Macro::Expint,
     Macro::Exreal,
     Macro::Fshrtn,
     Macro::Getac,
@@ -62,6 +63,7 @@ pub const BUILT: [Macro; 115] = [
     Macro::Mnreal,
     Macro::Mnsint,
     Macro::Mova,
+    Macro::Movblk,
     Macro::Movd,
     Macro::Movdic,
     Macro::Movv,

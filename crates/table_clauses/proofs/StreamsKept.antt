@@ -4,7 +4,6 @@ use Rattle.std.proofs.lemmas.Option.{same_Some}
 use Rattle.std.specs.Prelude.{ℤ, pos, All, FitsSigned, slice_get}
 use Rattle.std.specs.Int.{w64}
 use Rattle.std.specs.declared.ops.ControlFlow.{ControlFlow}
-use Rattle.sil_model.specs.declared.limits.Limits.{Limits}
 use Rattle.sil_model.specs.declared.program.Arg.{Arg}
 use Rattle.sil_model.specs.declared.program.Flow.{Flow}
 use Rattle.sil_model.specs.declared.specifier.Specifier.{Specifier}
@@ -12,13 +11,13 @@ use Rattle.sil_model.specs.declared.table.Action.{Action}
 use Rattle.sil_model.specs.declared.table.Action.TheVariants.{Contin, Goto, Stop, Stopsh, Error}
 use Rattle.sil_model.specs.declared.table.Entry.{Entry}
 use Rattle.sil_model.specs.declared.table.Table.{Table}
-use Rattle.sil_model.specs.Access.{◌>>=◌, char_at, set_a_at, set_v_at}
+use Rattle.sil_model.specs.Access.{◌>>=◌, char_at, set_a_at}
 use Rattle.sil_model.specs.Arguments.{goto_at}
 use Rattle.sil_model.specs.Fits.{Bounds, IsWithin}
 use Rattle.sil_model.specs.Integers.{◌⊞◌}
 use Rattle.sil_model.specs.Memory.{Memory, IsMemory}
 use Rattle.sil_model.specs.Specifiers.{FitsSpec, set_spec_at, spec_at}
-use Rattle.sil_model.specs.WellFormed.{FitsOption, GoesWithin, IsEntry, IsTable}
+use Rattle.sil_model.specs.WellFormed.{FitsOption, IsEntry, IsTable}
 use Rattle.sil_model.proofs.Keeps.{Keeps, LeadsWithin, Writes, all_at, keeps_read, sum_fits, writes_set_a, writes_set_v, writes_then}
 use Rattle.sil_model.proofs.Lists.{spec_fits, writes_set_spec}
 use Rattle.sil_model.proofs.Operands.{goto_leads}

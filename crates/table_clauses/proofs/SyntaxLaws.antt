@@ -1,5 +1,5 @@
 -- The laws of the macros of syntax tables.
-use Rattle.std.proofs.Common.{◌≡◌, ℕ, List, refl, arith}
+use Rattle.std.proofs.Common.{◌≡◌, ℕ, refl, arith}
 use Rattle.sil_macros.specs.declared.names.Macro.{Macro}
 use Rattle.sil_macros.specs.declared.names.Macro.TheVariants.{Clertb, Plugtb, Stream}
 use Rattle.sil_model.specs.Effects.{Effect}

@@ -1,5 +1,5 @@
 -- What the macros of syntax tables do. None stands for a use that is undefined.
-use Rattle.std.specs.Prelude.{ℕ, ◌+◌, List, length, replicate, Option, Some, None, ℤ, pos, ◌-ℤ◌, slice_get, slice_set}
+use Rattle.std.specs.Prelude.{ℕ, ◌+◌, List, replicate, Option, Some, None, ℤ, pos, ◌-ℤ◌, slice_get, slice_set}
 use Rattle.std.specs.declared.ops.ControlFlow.{ControlFlow}
 use Rattle.std.specs.declared.ops.ControlFlow.TheVariants.{Continue, Break}
 use Rattle.sil_model.specs.declared.program.Arg.{Arg}

@@ -1,15 +1,15 @@
 -- What the macros on patterns and blocks leave.
-use Rattle.std.specs.Prelude.{FitsSigned, cond, int_lt, ◌==◌, if◌then◌else◌, length}
+use Rattle.std.specs.Prelude.{FitsSigned, int_lt, if◌then◌else◌}
 use Rattle.std.specs.Int.{w64, int_pow}
-use Rattle.std.proofs.Common.{◌≡◌, ℕ, zero, suc, ◌+◌, ◌*◌, ◌≤◌, Bool, true, false, Option, Some, None, ℤ, pos, negsuc, refl, sym, subst, arith, ◌∙◌}
+use Rattle.std.proofs.Common.{◌≡◌, ℕ, zero, suc, Bool, true, false, Option, Some, None, ℤ, pos, negsuc, refl, subst, arith}
 use Rattle.std.proofs.lemmas.Option.{same_Some}
 use Rattle.std.specs.declared.ops.ControlFlow.{ControlFlow}
 use Rattle.std.specs.declared.ops.ControlFlow.TheVariants.{Continue, Break}
 use Rattle.layout_params.specs.declared.cell.Descr.{Descr as Descriptor}
 use Rattle.sil_model.specs.declared.program.Flow.{Flow}
-use Rattle.sil_model.specs.Access.{◌>>=◌, a_at, f_at, cell_at, descr_at, set_a_at, set_cell_at, integer_alone}
+use Rattle.sil_model.specs.Access.{◌>>=◌, a_at, f_at, descr_at, set_a_at}
 use Rattle.sil_model.specs.Effects.{onward}
-use Rattle.sil_model.specs.Integers.{◌⊞◌, ◌⊟◌, in_range}
+use Rattle.sil_model.specs.Integers.{◌⊞◌, ◌⊟◌}
 use Rattle.sil_model.specs.Memory.{Memory, IsMemory, FitsDescr}
 use Rattle.sil_model.proofs.Keeps.{Follows, Keeps, LeadsWithin, Writes, fits_cell_at, fits_descr_at, followed, follows_on, keeps_here, keeps_read, same, sum_fits, writes_read, writes_set_cell, writes_set_descr, writes_then}
 use Rattle.sil_model.proofs.Operands.{difference_fits, fits_a_at, goto_leads, range_fits}
@@ -19,7 +19,7 @@ use Rattle.tree_clauses.specs.declared.turns.Copying.{Copying}
 use Rattle.tree_clauses.specs.declared.turns.Lowest.{Lowest}
 use Rattle.tree_clauses.specs.declared.turns.Offsets.{Offsets}
 use Rattle.tree_clauses.specs.Loops.{each, walk}
-use Rattle.tree_clauses.specs.PatternClauses.{Copies, Moving, cell_turn, copied_with, copying_at, copying_on, cpypat, deliver, expint, found_at, front_written, greatest, has_flags, is_zero, lesser, link_turn, linkor, located, lowest_turn, lvalue, movblk, moved_memory, node_turn, power, rest_written, risen, title_turn, titled, top}
+use Rattle.tree_clauses.specs.PatternClauses.{Copies, Moving, cell_turn, copied_with, copying_at, copying_on, cpypat, deliver, expint, found_at, front_written, greatest, has_flags, is_zero, lesser, linkor, located, lowest_turn, lvalue, movblk, moved_memory, node_turn, power, rest_written, risen, title_turn, titled, top}
 use Rattle.tree_clauses.proofs.LoopLaws.{each_ends, walk_ends}
 use Rattle.tree_clauses.proofs.NodeLaws.{FitsMaybe, alone_fits, maybe_fits, maybe_since}
 use Rattle.tree_clauses.proofs.Since.{a_since, descr_since, since_end, since_leads, since_then, whole_since}

@@ -5,7 +5,7 @@ use Rattle.std.specs.Int.{w64}
 use Rattle.layout_params.specs.declared.cell.Cell.{Cell}
 use Rattle.layout_params.specs.declared.cell.Descr.{Descr as Descriptor}
 use Rattle.sil_model.specs.declared.program.Flow.{Flow}
-use Rattle.sil_model.specs.Access.{◌>>=◌, set_cell_at, set_descr_at, set_whole_at, set_a_at, set_v_at}
+use Rattle.sil_model.specs.Access.{◌>>=◌, set_descr_at, set_whole_at, set_a_at, set_v_at}
 use Rattle.sil_model.specs.Effects.{MemoryEffect, leads, onward}
 use Rattle.sil_model.specs.Memory.{Memory, FitsCell, FitsDescr}
 use Rattle.sil_model.proofs.Keeps.{Follows, Keeps, LeadsWithin, Writes, followed, follows_on, writes_set_a, writes_set_descr, writes_set_v, writes_set_whole}

@@ -4,8 +4,6 @@ use Rattle.std.specs.Int.{int_pow}
 use Rattle.std.specs.Ordering.{int_eq}
 use Rattle.std.specs.declared.ops.ControlFlow.{ControlFlow}
 use Rattle.std.specs.declared.ops.ControlFlow.TheVariants.{Continue, Break}
-use Rattle.layout_params.specs.declared.cell.Cell.{Cell}
-use Rattle.layout_params.specs.declared.cell.Cell.TheVariants.{Descr, Chars}
 use Rattle.layout_params.specs.declared.cell.Descr.{Descr as Descriptor}
 use Rattle.sil_model.specs.declared.program.Arg.{Arg}
 use Rattle.sil_model.specs.declared.program.Flow.{Flow}

@@ -1,7 +1,7 @@
 -- The table of the macros on trees, patterns and blocks: their clauses, and the visits that these make.
 use Rattle.std.specs.Prelude.{ℕ, ◌+◌, ◌*◌, ◌==◌, if◌then◌else◌, Bool, true, false, List, length, Option, Some, None, ℤ, pos, int_lt}
 use Rattle.layout_params.specs.declared.cell.Cell.{Cell}
-use Rattle.layout_params.specs.declared.cell.Cell.TheVariants.{Descr, Chars}
+use Rattle.layout_params.specs.declared.cell.Cell.TheVariants.{Chars}
 use Rattle.sil_macros.specs.declared.names.Macro.{Macro}
 use Rattle.sil_macros.specs.declared.names.Macro.TheVariants.{Addsib, Addson, Cpypat, Expint, Insert, Linkor, Locapt, Locapv, Lvalue, Maknod, Movblk, Top}
 use Rattle.sil_model.specs.declared.program.Arg.{Arg}

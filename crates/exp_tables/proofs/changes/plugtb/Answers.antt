@@ -1,4 +1,4 @@
-use Rattle.std.proofs.Common.{ℕ, ◌*◌, ◌^◌, ◌<◌, arith, lit≤, refl}
+use Rattle.std.proofs.Common.{◌*◌, ◌^◌, ◌<◌, arith, lit≤, refl}
 use Rattle.std.proofs.lemmas.Int.{to_z-of_z, to_z_pos}
 use Rattle.sil_micro.specs.TableWords.{action_number}
 use Rattle.exp_tables.specs.TableParts.{plug_code}

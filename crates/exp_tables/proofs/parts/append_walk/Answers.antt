@@ -1,4 +1,4 @@
-use Rattle.std.proofs.Common.{ℕ, ◌*◌, ◌^◌, ◌<◌, arith}
+use Rattle.std.proofs.Common.{◌*◌, ◌^◌, ◌<◌, arith}
 use Rattle.std.proofs.lemmas.Int.{to_z-of_z, to_z_pos}
 use Rattle.exp_tables.specs.TableParts.{walk_code}
 use Rattle.exp_tables.proofs.parts.append_walk.Goals as goal

@@ -1,8 +1,7 @@
-use Rattle.std.proofs.Common.{◌≡◌, ◌-◌, ◌∙◌, Option, Some, ap, sym, arith}
+use Rattle.std.proofs.Common.{◌≡◌, ◌-◌, ◌∙◌, Some, ap, sym, arith}
 use Rattle.std.proofs.lemmas.Int.{to_z-of_z}
 use Rattle.std.specs.declared.ops.ControlFlow.{ControlFlow}
 use Rattle.std.specs.declared.ops.ControlFlow.TheVariants.{Break}
-use Rattle.string_clauses.specs.Walks.{walk}
 use Rattle.string_clauses.proofs.Turns.{walk_more}
 use Rattle.table_clauses.specs.SyntaxClauses.{ran_out, stream_turn}
 use Rattle.table_clauses.specs.declared.streams.Halt.{Halt}

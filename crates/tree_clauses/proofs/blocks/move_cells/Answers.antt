@@ -1,7 +1,7 @@
-use Rattle.std.proofs.Common.{◌≡◌, ◌<◌, Some, pos, length, sym, ap, ◌∙◌, arith, rules}
+use Rattle.std.proofs.Common.{ap, arith, rules}
 use Rattle.std.proofs.lemmas.Int.{to_z-of_z}
 use Rattle.sil_model.specs.Access.{◌>>=◌}
-use Rattle.tree_clauses.specs.PatternClauses.{cell_turn, moved_memory}
+use Rattle.tree_clauses.specs.PatternClauses.{moved_memory}
 use Rattle.tree_clauses.proofs.LoopLaws.{each_more, each_past, each_stops}
 use Rattle.tree_clauses.proofs.blocks.move_cells.Goals as goal
 use mir.Val.{SFits}

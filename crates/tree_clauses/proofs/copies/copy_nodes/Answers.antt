@@ -1,7 +1,4 @@
-use Rattle.std.proofs.Common.{◌≡◌, ◌<◌, Some, pos, length, sym, ap, ◌∙◌, arith, rules}
-use Rattle.std.proofs.lemmas.Int.{to_z-of_z}
-use Rattle.std.specs.declared.ops.ControlFlow.TheVariants.{Continue, Break}
-use Rattle.tree_clauses.specs.PatternClauses.{node_turn}
+use Rattle.std.proofs.Common.{arith}
 use Rattle.tree_clauses.proofs.LoopLaws.{walk_starts, walk_more, walk_found, walk_stops, walk_past}
 use Rattle.tree_clauses.proofs.copies.copy_nodes.Goals as goal
 

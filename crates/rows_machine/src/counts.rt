@@ -1,7 +1,7 @@
 // The instructions that statements take, far below their bound of 2,000 and more each.
 
-use crate::go::{files, go};
 use image_file::load_image;
+use rows_go::go::{files, go};
 use rv_emulate::{Cpu, CpuEnd};
 use std::alloc::{AllocError, Global};
 use std::test::Fail;

@@ -1,12 +1,11 @@
-// Runs of the emulator, from their start to their end.
+// Words that are run in an image of their own.
 use image_file::Image;
 use layout_params::{ParamStop, STANDARD_PARAMS, read_params};
-use rv_emulate::{Cpu, CpuEnd, CpuStep, budget};
+use rv_emulate::{Cpu, CpuEnd, CpuStep};
 use rv_isa::{BOp, Instr, encode};
 use sil_macros::Macro;
 use std::alloc::{AllocError, Global};
-use std::test::Fail;
-use unit_io::Units;
+use unit_io::{UnitSet, Units};
 
 /// An image of these words and constants, and a table, with 166 cells of 16 bytes, whose one statement is at the
 /// first of the words.
@@ -23,12 +22,12 @@ fn image_with(alloc: Global, words: &[u32], constants: &[u8]) -> Result<Option<I
 }
 
 /// An image of these words and nine constants.
-fn image_of(alloc: Global, words: &[u32]) -> Result<Option<Image>, ParamStop> {
+pub fn image_of(alloc: Global, words: &[u32]) -> Result<Option<Image>, ParamStop> {
     let constants = [0x80, 0x81, 0x82, 0x83, 0x84, 0x85, 0x86, 0x87, 2];
     image_with(alloc, words, &constants)
 }
 
-fn cpu_of(alloc: Global, words: &[u32]) -> Result<Option<Cpu>, ParamStop> {
+pub fn cpu_of(alloc: Global, words: &[u32]) -> Result<Option<Cpu>, ParamStop> {
     let Some(image) = image_of(alloc, words)? else {
         return Ok(None);
     };
@@ -36,7 +35,7 @@ fn cpu_of(alloc: Global, words: &[u32]) -> Result<Option<Cpu>, ParamStop> {
 }
 
 /// How a run of these words ends within a thousand instructions.
-fn end_of(alloc: Global, words: &[u32]) -> Result<Option<CpuEnd>, ParamStop> {
+pub fn end_of(alloc: Global, words: &[u32]) -> Result<Option<CpuEnd>, ParamStop> {
     let Some(mut cpu) = cpu_of(alloc, words)? else {
         return Ok(None);
     };
@@ -89,12 +88,12 @@ pub fn end_after(
 }
 
 /// How a run of such words ends, over these constants and on these units.
-pub fn end_on(
+pub fn end_on<U: UnitSet>(
     alloc: Global,
     constants: &[u8],
     registers: &[(u32, u64)],
     words: &[u32],
-    units: &mut Units,
+    units: &mut U,
 ) -> Result<Option<CpuEnd>, ParamStop> {
     let code = code_of(alloc, registers, words)?;
     let Some(image) = image_with(alloc, &code, constants)? else {
@@ -124,100 +123,4 @@ pub fn answer_after(
     }
     let _ = cpu.step(&mut units);
     Ok(Some(cpu.step(&mut units)))
-}
-
-/// Words, and how a run of them ends.
-static ENDS: [(&[u32], CpuEnd); 8] = [
-    // ends by calls: an exit, a trap by a constant, and a call of no number
-    (&[0x0010_0513, 0x0010_0893, 0x0000_0073], CpuEnd::Exit(1)),
-    (
-        &[0x6800_02b7, 0x0082_c503, 0x0010_0893, 0x0000_0073],
-        CpuEnd::Trap(0),
-    ),
-    (&[0x0090_0893, 0x0000_0073], CpuEnd::BadCall(0x1_0004)),
-    // an end by a unit fault after a call that didn't fail
-    (
-        &[
-            0x0040_0893,
-            0x0000_0073,
-            0x0010_0893,
-            0x0050_0513,
-            0x0000_0073,
-        ],
-        CpuEnd::BadCall(0x1_0010),
-    ),
-    // no instruction, a store to the constants, a load off its places, and a fetch past the end
-    (&[0], CpuEnd::Illegal(0x1_0000)),
-    (&[0x6800_02b7, 0x0002_8023], CpuEnd::Store(0x1_0004)),
-    (&[0x6c00_02b7, 0x0042_b303], CpuEnd::Load(0x1_0004)),
-    (&[0x0010_0513], CpuEnd::Fetch(0x1_0004)),
-];
-
-#[test]
-fn calls_and_faults_end_runs(rt: HostRuntime) -> Result<(), Fail> {
-    for &(words, end) in &ENDS {
-        assert_eq!(rt; end_of(rt.alloc(), words)?, Some(end));
-    }
-    Ok(())
-}
-
-#[test]
-fn a_run_goes_on_after_its_budget_and_not_after_its_end(rt: HostRuntime) -> Result<(), Fail> {
-    let mut units = Units::new();
-    let Some(mut cpu) = cpu_of(rt.alloc(), &[0x0000_006f])? else {
-        panic!(rt; "an image of a loop");
-    };
-    assert_eq!(rt; cpu.met(), Some(0));
-    assert_eq!(rt; cpu.step(&mut units), CpuStep::Next);
-    assert_eq!(rt; cpu.run(&mut units, 10), CpuEnd::Runaway);
-    assert_eq!(rt; cpu.run(&mut units, 0), CpuEnd::Runaway);
-    let Some(mut cpu) = cpu_of(rt.alloc(), &[0x0010_0893, 0x0000_0073])? else {
-        panic!(rt; "an image of an exit");
-    };
-    assert_eq!(rt; cpu.run(&mut units, 2), CpuEnd::Exit(0));
-    assert_eq!(rt; cpu.run(&mut units, 0), CpuEnd::Exit(0));
-    assert_eq!(rt; cpu.step(&mut units), CpuStep::Ended(CpuEnd::Exit(0)));
-    assert_eq!(rt; cpu.met(), None);
-    Ok(())
-}
-
-#[test]
-fn budgets_count_cells_and_statements(rt: HostRuntime) -> Result<(), Fail> {
-    let Some(image) = image_of(rt.alloc(), &[0])? else {
-        panic!(rt; "an image of a word");
-    };
-    assert_eq!(rt; budget(&image, 1), 11_780_000);
-    Ok(())
-}
-
-#[test]
-fn a_statement_is_met_at_its_place(rt: HostRuntime) -> Result<(), Fail> {
-    let alloc = rt.alloc();
-    let image = Image::new(
-        &read_params(alloc, STANDARD_PARAMS)?,
-        Vec::from_slice(
-            alloc,
-            &[(0x1_0000, 1, Macro::Movd), (0x1_0008, 2, Macro::Endex)],
-        )?,
-        Vec::from_slice(alloc, &[0x0010_0893u32, 0x0000_0513, 0x0000_0073])?,
-        Vec::new(alloc),
-        Vec::new(alloc),
-        Vec::new(alloc),
-        Vec::new(alloc),
-    );
-    let Some(image) = image else {
-        panic!(rt; "an image of two statements");
-    };
-    let mut cpu = Cpu::new(alloc, &image, 1)?;
-    let mut units = Units::new();
-    let rows = [
-        (Some(0), CpuStep::Next),
-        (None, CpuStep::Next),
-        (Some(1), CpuStep::Ended(CpuEnd::Exit(0))),
-    ];
-    for (met, answer) in rows {
-        assert_eq!(rt; cpu.met(), met);
-        assert_eq!(rt; cpu.step(&mut units), answer);
-    }
-    Ok(())
 }

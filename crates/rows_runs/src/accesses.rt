@@ -1,5 +1,5 @@
 // What each region may be used for, and which calls can be made.
-use crate::emulator::{answer_after, end_after, lands, place_after};
+use rows_back::code::{answer_after, end_after, lands, place_after};
 use rv_emulate::{CpuEnd, CpuStep};
 use std::test::Fail;
 
@@ -53,6 +53,20 @@ static REGIONS: [(u32, u64, CpuStep); 36] = [
 
 /// Where a call stands behind the numbers of nine registers.
 pub const CALL: u64 = 0x1_024c;
+
+/// A call whose answer is stored: the first eight bytes of the cells become ones, then the answer is
+/// written over them, and loaded from there to x5.
+pub const ANSWER: [u32; 6] = [
+    0x0000_0073, // ecall
+    0x4000_0337, // lui x6, 0x40000
+    0xfff0_0293, // addi x5, x0, -1
+    0x0053_3023, // sd x5, 0(x6)
+    0x00a3_3023, // sd x10, 0(x6)
+    0x0003_3283, // ld x5, 0(x6)
+];
+
+/// Where a run is behind these words.
+pub const ANSWERED: u64 = CALL + 24;
 
 pub const CONSTANTS: u64 = 0x6800_0000;
 
@@ -141,15 +155,14 @@ fn regions_are_loaded_and_stored_by_their_rights(rt: HostRuntime) -> Result<(), 
     Ok(())
 }
 
-/// The word behind the call moves its answer to x5.
 #[test]
 fn calls_on_absent_units_answer_4_and_others_end(rt: HostRuntime) -> Result<(), Fail> {
     assert_eq!(rt; place_after(9), CALL);
     for (a7, operands, s10, answer) in &GOOD {
         let registers = registers(*a7, operands, *s10, 4);
-        let end = end_after(rt.alloc(), &registers, &[0x0000_0073, 0x0005_0293])?;
+        let end = end_after(rt.alloc(), &registers, &ANSWER)?;
         let expected = match answer {
-            CpuStep::Next => lands(CALL + 8),
+            CpuStep::Next => lands(ANSWERED),
             CpuStep::Ended(end) => Some(*end),
         };
         assert_eq!(rt; end, expected, "{a7} {operands:?}");

@@ -1,6 +1,6 @@
 // Sources and the values of their symbols.
-use crate::texts::{standard, text_of};
-use layout_params::Params;
+use layout_params::{Params, STANDARD_PARAMS, read_params};
+use rows_source::texts::text_of;
 use sil_base::{Record, decimal};
 use sil_macros::{Macro, macro_of};
 use sil_operands::{Operand, read_operands};
@@ -76,6 +76,10 @@ static VALUES: [(&str, &[u8], Option<i64>); 25] = [
     (" END", b"Q", None),
     ("A END", b"A", None),
 ];
+
+fn standard(alloc: Global) -> Result<Params, Fail> {
+    Ok(read_params(alloc, STANDARD_PARAMS)?)
+}
 
 /// The statement of a line with single blanks between its fields.
 fn statement_of(alloc: Global, card: u32, line: &str) -> Result<Stmt, Fail> {

@@ -1,6 +1,6 @@
 // Calls on units that are there.
-use crate::accesses::{CALL, CONSTANTS, SCRATCH, registers};
-use crate::emulator::{end_on, lands};
+use crate::accesses::{ANSWER, ANSWERED, CALL, CONSTANTS, SCRATCH, registers};
+use rows_back::code::{end_on, lands};
 use rv_emulate::CpuEnd;
 use sil_base::Record;
 use std::alloc::{AllocError, Global};
@@ -60,9 +60,6 @@ static FAILURES: [(u64, [u64; 6], u64); 5] = [
     (6, [6, 0, 0, 0, 0, 0], 1),
 ];
 
-/// A call, its answer moved to x5.
-const ANSWER: [u32; 2] = [0x0000_0073, 0x0005_0293];
-
 /// A call, and the end 5.
 const FAULT: [u32; 4] = [0x0000_0073, 0x0010_0893, 0x0050_0513, 0x0000_0073];
 
@@ -104,7 +101,7 @@ fn calls_are_answered_by_tapes(rt: HostRuntime) -> Result<(), Fail> {
         let mut units = units(alloc, &RECORDS, &[])?;
         let registers = registers(*a7, operands, 0, *answer);
         let end = end_on(alloc, FORMATS, &registers, &ANSWER, &mut units)?;
-        assert_eq!(rt; end, lands(CALL + 8), "{a7} {operands:?}");
+        assert_eq!(rt; end, lands(ANSWERED), "{a7} {operands:?}");
         assert!(rt; holds(&mut units, left), "{a7} {operands:?}");
     }
     Ok(())
@@ -117,7 +114,7 @@ fn a_failed_call_is_told_at_the_end(rt: HostRuntime) -> Result<(), Fail> {
         let registers = registers(*a7, operands, 0, *answer);
         let mut failing = units(alloc, &RECORDS, &[1])?;
         let end = end_on(alloc, FORMATS, &registers, &ANSWER, &mut failing)?;
-        assert_eq!(rt; end, lands(CALL + 8), "{a7}");
+        assert_eq!(rt; end, lands(ANSWERED), "{a7}");
         assert!(rt; holds(&mut failing, &RECORDS), "{a7}");
         let mut failing = units(alloc, &RECORDS, &[1])?;
         let end = end_on(alloc, FORMATS, &registers, &FAULT, &mut failing)?;
@@ -151,6 +148,6 @@ fn a_record_is_read_as_far_as_it_fits(rt: HostRuntime) -> Result<(), Fail> {
     let mut units = units(alloc, &[], &[])?;
     let registers = registers(2, &[6, SCRATCH, 3, 0, 0, 0], 0, 1);
     let end = end_on(alloc, FORMATS, &registers, &ANSWER, &mut units)?;
-    assert_eq!(rt; end, lands(CALL + 8));
+    assert_eq!(rt; end, lands(ANSWERED));
     Ok(())
 }

@@ -1,9 +1,9 @@
 // The abstract machine and the installed image, on sources that are made from seeds.
 ghost use Rattle.std.specs.Prelude.{◌≤◌};
 
-use crate::go::{files, go};
 use crate::programs::checked_of;
 use image_runs::run_image;
+use rows_go::go::{files, go};
 use rv_emulate::CpuEnd;
 use sil_machine::{End, sim};
 use std::alloc::{AllocError, Global};

@@ -1,5 +1,5 @@
 // Programs of sources.
-use crate::go::files;
+use rows_go::go::files;
 use sil_check::{Checked, SourceNames, check};
 use std::alloc::Global;
 use std::test::Fail;

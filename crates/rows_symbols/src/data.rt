@@ -2,9 +2,9 @@
 ghost use Rattle.std.specs.Prelude.{◌≡◌, IfOk, false};
 ghost use Rattle.sil_symbols.specs.StatementParts.{part_of, is_end};
 
-use crate::texts::{WIDE_PARAMS, text_of};
 use data_asm::{DataStop, assemble};
 use layout_params::{Cell, STANDARD_PARAMS, read_params};
+use rows_source::texts::text_of;
 use sil_base::{Record, decimal};
 use sil_macros::Macro;
 use sil_operands::{Operands, read_operands};
@@ -12,6 +12,10 @@ use sil_symbols::{Stmt, resolve};
 use smallvec::SmallVec;
 use std::alloc::{AllocError, Global};
 use std::test::Fail;
+
+/// The parameters of a layout with 24 bytes to a descriptor.
+const WIDE_PARAMS: &[u8] =
+    b"DESCR 24\nAOFF 0\nFOFF 8\nFLEN 4\nVOFF 16\nVLEN 8\nFNC 1\nMARK 2\nPTR 4\nSTTL 8\nTTL 16\nSTSIZE 64\nDYNSIZ 100\nOBSIZ 256\nUNITI 5\nUNITO 6\nUNITP 7\nDATE 01/01/70\n";
 
 /// Macros, operand fields, and their cells, or the fault of the line: of a descriptor the three fields, of
 /// characters all up to the last that isn't 0. The label is X.
