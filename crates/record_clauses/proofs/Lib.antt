@@ -1,0 +1,4 @@
+pub mod RecordVisits
+pub mod ReadBack
+pub mod RecordKeeps
+pub mod RecordLaws

@@ -1,0 +1,2 @@
+pub mod RecordClauses
+pub mod RecordTable
